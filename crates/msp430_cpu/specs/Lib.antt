@@ -1,0 +1,6 @@
+pub mod Bus
+pub mod Cpu
+pub mod Operate
+pub mod Exec
+pub mod Memory
+pub mod Slots

@@ -1,0 +1,5 @@
+pub mod Mote
+pub mod Pace
+pub mod Allowed
+pub mod Law
+pub mod ConstantWrites

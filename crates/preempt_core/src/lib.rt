@@ -1,0 +1,2 @@
+//! A mote that runs an image behaves as a run of the source.
+#![tactic(auto)]
