@@ -1,0 +1,50 @@
+//! Hexadecimal numbers of a fixed width.
+
+ghost use Rattle.std.specs.Prelude.{◌≡◌, ◌<◌, Some};
+ghost use Rattle.std.specs.Char.{digit_char};
+ghost use Rattle.mote_text.specs.Hex.{hex_word, hex_upper};
+
+use std::{fmt, str};
+
+/// A word as four lower-case hexadecimal digits.
+#[derive(Clone, Copy)]
+pub struct HexWord(pub u16);
+
+fn lower_digit(digit: u16) -> u8
+    requires { digit < 16 }
+    ensures { result ≡ digit_char digit }
+{
+    if digit < 10 {
+        b'0' + digit as u8
+    } else {
+        b'a' + (digit - 10) as u8
+    }
+}
+
+impl fmt::Display for HexWord {
+    ghost output = { λ word. Some (hex_word word.0) };
+
+    fn fmt<W: fmt::Write>(&self, f: &mut fmt::Formatter<W>) -> fmt::Result {
+        let word = self.0;
+        let digits = [
+            lower_digit(word / 0x1000),
+            lower_digit(word / 0x100 % 16),
+            lower_digit(word / 0x10 % 16),
+            lower_digit(word % 16),
+        ];
+        f.write_str(str::from_utf8(&digits).map_err(|_| fmt::Error)?)
+    }
+}
+
+/// The upper-case hexadecimal digit of a number below 16.
+pub(crate) fn upper_digit(digit: u8) -> char
+    requires { digit < 16 }
+    ensures value { result ≡ hex_upper digit }
+    ensures ascii { result < 128 }
+{
+    if digit < 10 {
+        (b'0' + digit) as char
+    } else {
+        (b'A' + (digit - 10)) as char
+    }
+}

@@ -1,0 +1,9 @@
+//! The texts of images and traces.
+#![tactic(auto)]
+
+mod hex;
+mod image_text;
+mod trace;
+
+pub use image_text::push_image;
+pub use trace::{End, Event};
