@@ -1,0 +1,19 @@
+use Rattle.std.proofs.Common.{◌≡◌, ℕ, List, get_or, refl, sym, ap, ◌∙◌}
+use Rattle.std.specs.Prelude.{codes}
+use Rattle.nm_driver.specs.Form.{number}
+use Rattle.nm_driver.proofs.Statements.{seven}
+use Rattle.nm_driver.proofs.form.port_write.Goals as goal
+
+pub returns-then-is_device_port : goal.returns-then-is_device_port
+returns-then-is_device_port c =
+    let tokens = c.args.tokens.now in (
+      record { port = c.index-tokens-2.result; value = c.index-tokens-4.result; write = record { port = c.in-Some-Some.port; value = c.in-Some-Some.value } },
+      record {
+        port = ap number (sym c.as_bytes.ensures) ∙ sym c.number.ensures ∙ c.in-Some-Some.is-0;
+        value = ap number (sym c.as_bytes-2.ensures) ∙ sym c.number-2.ensures ∙ c.in-Some-Some.is-1;
+        at_device = sym c.if-is_device_port.ensures;
+      },
+      seven tokens (codes "port_write") (codes "(") c.index-tokens-2.result (codes ",") c.index-tokens-4.result (codes ")") (codes ";") c.requires
+          (c.if-not-are_words.ensures.0 refl) c.index-tokens-2.is (c.if-not-are_words-2.ensures.0 refl) c.index-tokens-4.is (c.if-not-are_words-3.ensures.0 refl),
+      refl,
+    )

@@ -1,0 +1,244 @@
+//! The form of an application's file: one module that writes constants to ports when the mote has booted.
+
+ghost use Rattle.std.specs.Prelude.{◌≡◌, ◌↔◌, ◌++◌, ℕ, List, length, map, nat_eq, slice_index, IsTrue, IfOk, MatchOption};
+ghost use Rattle.std.specs.List.{list_all, list_any, flat_map, AllByRecursion};
+ghost use Rattle.std.specs.Cmp.Lexicographic.{pointwise};
+ghost use Rattle.nm_driver.specs.Tokens.{is_letter, is_word_byte};
+ghost use Rattle.core_meaning.specs.declared.PortWrite.{PortWrite};
+ghost use Rattle.nm_driver.specs.Form.{AreStatements, HasForm, IsWritten, Written, head, is_device_port, is_name, keywords, statement, tail};
+
+use crate::number::number;
+use crate::tokens::{is_letter, is_word_byte, tokens_of};
+use core_meaning::PortWrite;
+use nm_base::{Name, NoMemory};
+use std::alloc::Global;
+
+const MOST_WRITES: usize = 200;
+
+// How many tokens stand before the statements, and in each of them.
+const HEAD: usize = 18;
+
+const STATEMENT: usize = 7;
+
+/// The words that are no names: those of the grammar and of the forms that are left out.
+const KEYWORDS: [&str; 61] = [
+    "interface",
+    "async",
+    "command",
+    "event",
+    "generic",
+    "module",
+    "implementation",
+    "configuration",
+    "typedef",
+    "provides",
+    "uses",
+    "as",
+    "components",
+    "new",
+    "norace",
+    "static",
+    "default",
+    "inline",
+    "task",
+    "void",
+    "const",
+    "volatile",
+    "struct",
+    "enum",
+    "signed",
+    "unsigned",
+    "char",
+    "short",
+    "int",
+    "long",
+    "atomic",
+    "if",
+    "else",
+    "while",
+    "do",
+    "for",
+    "switch",
+    "case",
+    "break",
+    "continue",
+    "return",
+    "sizeof",
+    "NULL",
+    "unique",
+    "uniqueCount",
+    "port_read",
+    "port_write",
+    "post",
+    "call",
+    "signal",
+    "goto",
+    "float",
+    "double",
+    "union",
+    "nx_union",
+    "extern",
+    "includes",
+    "asm",
+    "__asm__",
+    "__attribute__",
+    "nx_struct",
+];
+
+/// What stands between the module's name and its writes.
+const SPECIFICATION: [&str; 16] = [
+    "{",
+    "uses",
+    "interface",
+    "Boot",
+    ";",
+    "}",
+    "implementation",
+    "{",
+    "event",
+    "void",
+    "Boot",
+    ".",
+    "booted",
+    "(",
+    ")",
+    "{",
+];
+
+const TAIL: [&str; 2] = ["}", "}"];
+
+fn begins_with_letter(word: &[u8]) -> bool
+    ensures { result ≡ is_letter (slice_index word.now 0) }
+{
+    match word {
+        [first, ..] => is_letter(*first),
+        [] => false,
+    }
+}
+
+fn are_word_bytes(word: &[u8]) -> bool
+    ensures { result ≡ list_all is_word_byte word.now }
+{
+    word.iter().all(|byte| is_word_byte(*byte))
+}
+
+fn is_keyword(word: &str) -> bool
+    ensures { result ≡ list_any (λ k. pointwise nat_eq k word.now) keywords }
+{
+    KEYWORDS.contains(&word)
+}
+
+/// Whether a word may name a component.
+fn is_name(word: &str) -> bool
+    ensures { result ≡ is_name word.now }
+{
+    let bytes = word.as_bytes();
+    begins_with_letter(bytes) && are_word_bytes(bytes) && !is_keyword(word)
+}
+
+// Whether the tokens are these words, one after the other.
+fn are_words(tokens: &[Name], words: &[&str]) -> bool
+    ensures { IsTrue result ↔ (tokens.now ≡ map (λ w. w.now) words.now) }
+{
+    if tokens.len() != words.len() {
+        return false;
+    }
+    for (i, word) in words.iter().enumerate() {
+        if tokens[i].as_bytes() != word.as_bytes() {
+            return false;
+        }
+    }
+    true
+}
+
+// The tokens between the head and the tail of the form.
+fn body_of<'a>(app: &str, tokens: &'a [Name]) -> Option<&'a [Name]>
+    ensures { MatchOption result ((body : List (List ℕ)) → tokens.entry.now ≡ head app.now ++ (body ++ tail) → ⊥)
+        (λ body. tokens.entry.now ≡ head app.now ++ (body.now ++ tail)) }
+{
+    if tokens.len() < HEAD + TAIL.len() {
+        return None;
+    }
+    let end = tokens.len() - TAIL.len();
+    if are_words(&tokens[..2], &["module", app])
+        && are_words(&tokens[2..HEAD], &SPECIFICATION)
+        && are_words(&tokens[end..], &TAIL)
+    {
+        Some(&tokens[HEAD..end])
+    } else {
+        None
+    }
+}
+
+// The even word ports of the devices.
+fn is_device_port(port: u16) -> bool
+    ensures { result ≡ is_device_port port }
+{
+    (0x0120..0x0160).contains(&port) && port % 2 == 0
+}
+
+// The write of the seven tokens of a statement.
+fn port_write(tokens: &[Name]) -> Option<PortWrite>
+    requires { length tokens.now ≡ 7 }
+    ensures { MatchOption result ((w : Written) → IsWritten w → tokens.now ≡ statement w → ⊥) (λ p. (w : Written) × IsWritten w × (tokens.now ≡ statement w) × (w.write ≡ p)) }
+{
+    if !are_words(&tokens[..2], &["port_write", "("])
+        || !are_words(&tokens[3..4], &[","])
+        || !are_words(&tokens[5..], &[")", ";"])
+    {
+        return None;
+    }
+    let (Some(port), Some(value)) = (number(tokens[2].as_bytes()), number(tokens[4].as_bytes()))
+    else {
+        return None;
+    };
+    if is_device_port(port) {
+        Some(PortWrite { port, value })
+    } else {
+        None
+    }
+}
+
+// The writes of a list of statements; None exactly where the tokens are none.
+fn writes_in(alloc: Global, body: &[Name]) -> Result<Option<Vec<PortWrite>>, NoMemory>
+    ensures { IfOk result (λ o. MatchOption o ((ws : List PortWrite) → AreStatements body.now ws → ⊥) (λ v. AreStatements body.now v.items)) }
+{
+    let mut writes = Vec::new(alloc);
+    let mut rest = body;
+    while rest.len() >= STATEMENT {
+        let (statement, others) = rest.split_at(STATEMENT);
+        let Some(write) = port_write(statement) else {
+            return Ok(None);
+        };
+        writes.push(write)?;
+        rest = others;
+    }
+    if rest.is_empty() {
+        Ok(Some(writes))
+    } else {
+        Ok(None)
+    }
+}
+
+/// The writes of a text of the form; None exactly where the text has not the form.
+pub(crate) fn writes_of(
+    alloc: Global,
+    app: &str,
+    text: &[u8],
+) -> Result<Option<Vec<PortWrite>>, NoMemory>
+    ensures { IfOk result (λ o. MatchOption o ((ws : List PortWrite) → HasForm app.now text.now ws → ⊥) (λ v. HasForm app.now text.now v.items)) }
+{
+    if !is_name(app) {
+        return Ok(None);
+    }
+    let Some(tokens) = tokens_of(alloc, text)? else {
+        return Ok(None);
+    };
+    let Some(body) = body_of(app, &tokens) else {
+        return Ok(None);
+    };
+    if body.len() > MOST_WRITES * STATEMENT {
+        return Ok(None);
+    }
+    writes_in(alloc, body)
+}
