@@ -120,9 +120,12 @@ detail (LeftOut pos left) = codes " " ++ left_word left
 detail _ = []
 
 -- the number has two digits; the place is that of the file
+abbrev pub refusal_place : List ℕ → Refusal → List ℕ
+refusal_place file r =
+    codes "refused E" ++ (decimal (refusal_number r / 10) ++ (decimal (refusal_number r % 10) ++ (codes " " ++ (file ++ (codes ":" ++ (decimal (refusal_pos r).line ++ (codes ":" ++ decimal (refusal_pos r).col)))))))
+
 abbrev pub refusal_text : List ℕ → Refusal → List ℕ
-refusal_text file r =
-    codes "refused E" ++ (decimal (refusal_number r / 10) ++ (decimal (refusal_number r % 10) ++ (codes " " ++ (file ++ (codes ":" ++ (decimal (refusal_pos r).line ++ (codes ":" ++ (decimal (refusal_pos r).col ++ detail r))))))))
+refusal_text file r = refusal_place file r ++ detail r
 
 -- the second word
 abbrev pub application : List (List ℕ) → List ℕ

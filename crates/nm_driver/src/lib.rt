@@ -1,6 +1,7 @@
 //! The top call: from the words of a command line to what is written.
 #![tactic(auto)]
 
+mod answer;
 mod form;
 mod number;
 mod status;
