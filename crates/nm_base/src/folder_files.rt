@@ -78,3 +78,33 @@ fn read_limited<R: Folder>(rt: &R, alloc: Global, path: &str) -> io::Result<Vec<
     bytes.truncate(FILE_LIMIT as usize + 1);
     Ok(bytes)
 }
+
+#[cfg(test)]
+mod tests {
+    use super::*;
+    use std::test::Fail;
+
+    #[test]
+    fn reads_the_current_folder(rt: HostRuntime) -> Result<(), Fail> {
+        let alloc = rt.alloc();
+        fs::write(&rt, "Leds.nc", "module Leds {")?;
+        fs::create_dir(&rt, "lib")?;
+        let mut files = FolderFiles::new(rt);
+        for (name, want) in [
+            ("Leds.nc", "bytes 13"),
+            ("Absent.nc", "missing"),
+            ("\u{fffd}", "missing"),
+            ("lib", "failed"),
+        ] {
+            let name = Name::new(alloc, name.as_bytes())?;
+            let found = match files.read(alloc, &name) {
+                Found::Bytes(bytes) => format!(in alloc; "bytes {}", bytes.len())?,
+                Found::Missing => String::from_str(alloc, "missing")?,
+                Found::Failed => String::from_str(alloc, "failed")?,
+                Found::NoMemory => String::from_str(alloc, "no memory")?,
+            };
+            assert_eq!(rt; found.as_str(), want);
+        }
+        Ok(())
+    }
+}

@@ -64,3 +64,50 @@ impl Files for MemFiles {
         }
     }
 }
+
+#[cfg(test)]
+mod tests {
+    use super::*;
+    use crate::PlainFiles;
+    use std::alloc::AllocError;
+    use std::test::Fail;
+
+    fn two_files(alloc: Global) -> Result<Vec<(Name, List<u8>)>, Fail> {
+        let mut files = Vec::new(alloc);
+        for (name, text) in [("A.nc", "first"), ("A.nc", "second")] {
+            let name = Name::new(alloc, name.as_bytes())?;
+            let text = List::new(text.as_bytes().to_vec(alloc)?);
+            files.push((name, text)).map_err(AllocError::from)?;
+        }
+        Ok(files)
+    }
+
+    fn holds(found: &Found, want: &[u8]) -> bool {
+        match found {
+            Found::Bytes(bytes) => bytes.as_slice() == want,
+            _ => false,
+        }
+    }
+
+    #[test]
+    fn fails_where_listed(rt: HostRuntime) -> Result<(), Fail> {
+        let alloc = rt.alloc();
+        let mut files = MemFiles::new(two_files(alloc)?, vec![in alloc; 1]?);
+        let name = Name::new(alloc, b"A.nc")?;
+        assert!(rt; holds(&files.read(alloc, &name), b"first"));
+        assert!(rt; matches!(files.read(alloc, &name), Found::Failed));
+        assert!(rt; holds(&files.read(alloc, &name), b"first"));
+        Ok(())
+    }
+
+    #[test]
+    fn plain_files_know_their_names(rt: HostRuntime) -> Result<(), Fail> {
+        let alloc = rt.alloc();
+        let mut files = PlainFiles::new(two_files(alloc)?);
+        let there = Name::new(alloc, b"A.nc")?;
+        let absent = Name::new(alloc, b"B.nc")?;
+        assert!(rt; holds(&files.read(alloc, &there), b"first"));
+        assert!(rt; matches!(files.read(alloc, &absent), Found::Missing));
+        Ok(())
+    }
+}

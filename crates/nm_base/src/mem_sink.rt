@@ -66,3 +66,37 @@ impl Sink for MemSink {
         Wrote::Took(n)
     }
 }
+
+#[cfg(test)]
+mod tests {
+    use super::*;
+    use crate::write_all;
+    use std::test::Fail;
+
+    #[test]
+    fn takes_what_fits(rt: HostRuntime) -> Result<(), Fail> {
+        let alloc = rt.alloc();
+        let mut sink = MemSink::new(alloc, 5, vec![in alloc; 1]?)?;
+        assert_eq!(rt; sink.write(b"abc"), Wrote::Took(3));
+        assert_eq!(rt;
+            sink.write(b"de"),
+            Wrote::Failed,
+            "the second write is listed"
+        );
+        assert!(rt;
+            write_all(&mut sink, b"def").is_err(),
+            "there is room for two"
+        );
+        assert_eq!(rt; sink.bytes(), b"abcde".as_slice());
+        Ok(())
+    }
+
+    #[test]
+    fn writes_all(rt: HostRuntime) -> Result<(), Fail> {
+        let alloc = rt.alloc();
+        let mut sink = MemSink::new(alloc, 5, vec![in alloc]?)?;
+        assert!(rt; write_all(&mut sink, b"hello").is_ok());
+        assert_eq!(rt; sink.bytes(), b"hello".as_slice());
+        Ok(())
+    }
+}

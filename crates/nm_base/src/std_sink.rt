@@ -44,3 +44,14 @@ fn write_flushed<W: Write>(out: &mut W, piece: &[u8]) -> Option<usize>
     out.flush().ok()?;
     if n == 0 { None } else { Some(n) }
 }
+
+#[cfg(test)]
+mod tests {
+    use super::*;
+
+    #[test]
+    fn writes_a_line(rt: HostRuntime) {
+        let mut out = StdSink::new(rt);
+        assert_eq!(rt; out.write(b"ok 3\n"), Wrote::Took(5));
+    }
+}
