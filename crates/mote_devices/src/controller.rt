@@ -99,3 +99,30 @@ impl Ports for Controller {
         self.stopped
     }
 }
+
+#[cfg(test)]
+mod tests {
+    use super::*;
+
+    #[test]
+    fn answers_as_a_bare_board(rt: HostRuntime) {
+        let mut controller = Controller::new();
+        controller.put(0x0100, 0x01FF);
+        controller.put(0x0104, 0x1234);
+        controller.put(0x0104, 0x0005);
+        assert_eq!(rt; controller.get(0x0100), 0xFF, "the mask is a byte");
+        assert_eq!(rt; controller.get(0x0102), 0, "no device requests");
+        assert_eq!(rt; controller.line(), None);
+        assert_eq!(rt; controller.stopped(), Some(0x34), "the first code stays");
+        let first_four = [
+            Shown::Out(0x0100, 0x01FF),
+            Shown::Fault(0x34),
+            Shown::Fault(0x05),
+            Shown::In(0x0100, 0xFF),
+        ];
+        assert_eq!(rt; controller.events(), first_four.as_slice());
+        controller.forget();
+        controller.accept(7);
+        assert_eq!(rt; controller.events(), [Shown::Enter(7)].as_slice());
+    }
+}
