@@ -1,5 +1,5 @@
 -- Fakes in memory, of which chosen calls fail.
-use Rattle.std.specs.Prelude.{ℕ, ◌+◌, ◌-◌, ◌^◌, min, Bool, true, false, List, Option, Some, Vec, Contains, vec_len, vec_capacity}
+use Rattle.std.specs.Prelude.{ℕ, ◌+◌, ◌-◌, ◌^◌, min, Bool, true, false, List, Option, Some, Vec, Contains, if◌then◌else◌, vec_len, vec_capacity}
 use Rattle.std.specs.declared.alloc.Global.{Global}
 use Rattle.nm_base.specs.declared.fault_plan.FaultPlan.{FaultPlan}
 use Rattle.nm_base.specs.declared.files.Found.{Found}
@@ -20,6 +20,14 @@ IsDue plan = Contains plan.fail.items plan.calls
 
 abbrev pub new_plan : Vec ℕ Global → FaultPlan
 new_plan fail = record { fail = fail; calls = 0; faults = 0 }
+
+-- a plan after a call that failed or not
+abbrev pub after_call : FaultPlan → Bool → FaultPlan
+after_call plan fails = record {
+  fail = plan.fail;
+  calls = counted_up plan.calls;
+  faults = if fails then counted_up plan.faults else plan.faults;
+}
 
 abbrev pub is_failed : Found → Bool
 is_failed found.Failed = true

@@ -1,7 +1,7 @@
 //! A sink in memory with a fixed room, of which chosen writes fail.
 
-ghost use Rattle.std.specs.Prelude.{◌≡◌, ◌<◌, ◌≤◌, ◌⊎◌, ◌↔◌, min, length, take, [], Some, IfOk, if◌then◌else◌};
-ghost use Rattle.nm_base.specs.Memory.{IsDue, counted_up, new_plan, sink_taken, sink_room, room_left, is_refused};
+ghost use Rattle.std.specs.Prelude.{◌≡◌, ◌<◌, ◌≤◌, ◌⊎◌, ◌↔◌, min, length, take, [], Some, IfOk};
+ghost use Rattle.nm_base.specs.Memory.{IsDue, after_call, new_plan, sink_taken, sink_room, room_left, is_refused};
 ghost use Rattle.nm_base.specs.Outside.{Rose, appended, IfTook};
 
 use crate::fault_plan::FaultPlan;
@@ -46,13 +46,15 @@ impl Sink for MemSink {
     /// Takes as much of the piece as there is room for.
     fn write(&mut self, piece: &[u8]) -> Wrote
         requires { 0 < length piece.now }
-        ensures took { IfTook result (λ n. (0 < n) × (n ≤ length piece.now) × (sink_taken self.new ≡ appended (sink_taken self.old) (take n piece.now))) }
-        ensures failed { result ≡ Wrote.Failed → (sink_taken self.new ≡ sink_taken self.old) × Rose self.old.plan.faults self.new.plan.faults }
+        ensures took { IfTook result (λ n. (0 < n) × (n ≤ length piece.now) ×
+            (sink_taken self.new ≡ appended (sink_taken self.old) (take n piece.now))) }
+        ensures failed { result ≡ Wrote.Failed → (sink_taken self.new ≡ sink_taken self.old) ×
+            Rose self.old.plan.faults self.new.plan.faults }
         ensures kept { self.old.plan.faults ≤ self.new.plan.faults }
         ensures failed_exactly { (result ≡ Wrote.Failed) ↔ (IsDue self.old.plan ⊎ (room_left self.old ≡ 0)) }
         ensures took_exactly { IfTook result (λ n. n ≡ min (length piece.now) (room_left self.old)) }
         ensures room { sink_room self.old ≤ sink_room self.new }
-        ensures plan { self.new.plan ≡ record { fail = self.old.plan.fail; calls = counted_up self.old.plan.calls; faults = if is_refused result then counted_up self.old.plan.faults else self.old.plan.faults } }
+        ensures plan { self.new.plan ≡ after_call self.old.plan (is_refused result) }
     {
         let room = self.bytes.capacity().saturating_sub(self.bytes.len());
         let n = piece.len().min(room);
