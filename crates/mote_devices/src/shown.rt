@@ -24,3 +24,10 @@ pub enum Shown {
     Enter(u8),
     Fault(u16),
 }
+
+/// A blank for the unused places of a fixed buffer.
+impl Default for Shown {
+    fn default() -> Shown {
+        Shown::Fault(0)
+    }
+}
