@@ -4,3 +4,4 @@ pub mod Operate
 pub mod Exec
 pub mod Memory
 pub mod Slots
+pub mod Values

@@ -3,6 +3,9 @@
 
 mod bus;
 mod cpu;
+mod execute;
+mod operate;
+mod place;
 
 pub use bus::Bus;
-pub use cpu::Stepped;
+pub use cpu::{Cpu, Stepped};
