@@ -4,8 +4,10 @@
 mod bus;
 mod cpu;
 mod execute;
+mod memory;
 mod operate;
 mod place;
 
 pub use bus::Bus;
 pub use cpu::{Cpu, Stepped};
+pub use memory::MemoryBus;
