@@ -4,5 +4,6 @@ pub mod Operate
 pub mod Exec
 pub mod Kept
 pub mod Memory
+pub mod Rows
 pub mod Slots
 pub mod Values

@@ -7,7 +7,9 @@ mod execute;
 mod memory;
 mod operate;
 mod place;
+mod rows;
 
 pub use bus::Bus;
 pub use cpu::{Cpu, Stepped};
 pub use memory::MemoryBus;
+pub use rows::worked_rows;
