@@ -8,6 +8,8 @@ mod memory;
 mod operate;
 mod place;
 mod rows;
+#[cfg(test)]
+mod tests;
 
 pub use bus::Bus;
 pub use cpu::{Cpu, Stepped};
