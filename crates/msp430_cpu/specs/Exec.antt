@@ -54,6 +54,30 @@ incremented c byte _ = c
 abbrev pub with_cpu : {B : Type 0} → Joined B → Cpu → Joined B
 with_cpu j c = record { cpu = c; bus = j.bus }
 
+abbrev pub is_sr : Where → Bool
+is_sr (InRegister r) = r == 2
+is_sr _ = false
+
+-- an operand that is changed where it lies
+abbrev pub change : Op1 → Bool → ℕ → ℕ → Result2
+change Rrc byte sr v =
+    let r = v / 2 + (sr % 2) * (span byte / 2) in
+    record { result = r; is_written = true; sr = with_flags sr (v % 2 == 1) (r == 0) (is_negative byte r) false }
+change Rra byte sr v =
+    let r = v / 2 + (if is_negative byte v then span byte / 2 else 0) in
+    record { result = r; is_written = true; sr = with_flags sr (v % 2 == 1) (r == 0) (is_negative byte r) false }
+change Swpb byte sr v = record { result = v / 256 + 256 * (v % 256); is_written = true; sr = sr }
+change Sxt byte sr v =
+    let r = v % 256 + (if bit v 7 then 0xFF00 else 0) in
+    record { result = r; is_written = true; sr = with_flags sr (not (r == 0)) (r == 0) (bit r 15) false }
+change Push byte sr v = record { result = v; is_written = false; sr = sr }
+change Call byte sr v = record { result = v; is_written = false; sr = sr }
+
+-- the address `words` further on
+abbrev pub jumped : ℕ → ℤ → ℕ
+jumped pc (pos k) = wrap16 (pc + 2 * k)
+jumped pc (negsuc k) = wrap16 (pc + 0x10000 - 2 * (k + 1))
+
 module _ {B : Type 0} (ops : Bus B) where
   -- what lies there, and the bus after the read
   abbrev pub value_at : Joined B → Bool → Where → ℕ × B
@@ -66,10 +90,6 @@ module _ {B : Type 0} (ops : Bus B) where
   put_at j byte (InRegister r) v = record { cpu = with_reg j.cpu r v; bus = j.bus }
   put_at j byte (AtAddress a) v = record { cpu = j.cpu; bus = ops.write j.bus a (not byte) v }
   put_at j byte (AsValue x) v = j
-
-  abbrev pub is_sr : Where → Bool
-  is_sr (InRegister r) = r == 2
-  is_sr _ = false
 
   -- flags, unless SR was the destination
   abbrev pub flagged : Joined B → Where → ℕ → Joined B
@@ -103,21 +123,6 @@ module _ {B : Type 0} (ops : Bus B) where
       let v = ops.read j.bus j.cpu.sp true in
       (v.0, record { cpu = record j.cpu { sp = wrap16 (j.cpu.sp + 2) }; bus = v.1 })
 
-  -- an operand that is changed where it lies
-  abbrev pub change : Op1 → Bool → ℕ → ℕ → Result2
-  change Rrc byte sr v =
-      let r = v / 2 + (sr % 2) * (span byte / 2) in
-      record { result = r; is_written = true; sr = with_flags sr (v % 2 == 1) (r == 0) (is_negative byte r) false }
-  change Rra byte sr v =
-      let r = v / 2 + (if is_negative byte v then span byte / 2 else 0) in
-      record { result = r; is_written = true; sr = with_flags sr (v % 2 == 1) (r == 0) (is_negative byte r) false }
-  change Swpb byte sr v = record { result = v / 256 + 256 * (v % 256); is_written = true; sr = sr }
-  change Sxt byte sr v =
-      let r = v % 256 + (if bit v 7 then 0xFF00 else 0) in
-      record { result = r; is_written = true; sr = with_flags sr (not (r == 0)) (r == 0) (bit r 15) false }
-  change Push byte sr v = record { result = v; is_written = false; sr = sr }
-  change Call byte sr v = record { result = v; is_written = false; sr = sr }
-
   abbrev pub end_one : Op1 → Bool → Where → ℕ → Joined B → Joined B
   end_one Push byte at v j = pushed j byte v
   end_one Call byte at v j = let k = pushed j false j.cpu.pc in with_cpu k (record k.cpu { pc = even v })
@@ -130,11 +135,6 @@ module _ {B : Type 0} (ops : Bus B) where
       let v = value_at j byte place in
       let c = incremented j.cpu byte operand in
       end_one op byte place v.0 (record { cpu = record c { pc = wrap16 (c.pc + further operand) }; bus = v.1 })
-
-  -- the address `words` further on
-  abbrev pub jumped : ℕ → ℤ → ℕ
-  jumped pc (pos k) = wrap16 (pc + 2 * k)
-  jumped pc (negsuc k) = wrap16 (pc + 0x10000 - 2 * (k + 1))
 
   -- an instruction, with PC behind its first word
   abbrev pub ran : Instr → Joined B → Joined B
@@ -178,7 +178,7 @@ module _ {B : Type 0} (ops : Bus B) where
 
   -- the address of vector v
   abbrev pub vector : ℕ → ℕ
-  vector v = 0xFFE0 + 2 * v
+  vector v = wrap16 (0xFFE0 + 2 * v)
 
   abbrev pub entered : Joined B → ℕ → Step
   entered j v =

@@ -2,5 +2,8 @@ pub mod Bus
 pub mod Cpu
 pub mod Operate
 pub mod Exec
+pub mod Kept
 pub mod Memory
+pub mod Rows
 pub mod Slots
+pub mod Values

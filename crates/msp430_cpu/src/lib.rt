@@ -3,6 +3,15 @@
 
 mod bus;
 mod cpu;
+mod execute;
+mod memory;
+mod operate;
+mod place;
+mod rows;
+#[cfg(test)]
+mod tests;
 
 pub use bus::Bus;
-pub use cpu::Stepped;
+pub use cpu::{Cpu, Stepped};
+pub use memory::MemoryBus;
+pub use rows::worked_rows;

@@ -1,5 +1,5 @@
 -- The bytes of an image (SLAU049, section 1.4: a word stands with its low byte first).
-use Rattle.std.specs.Prelude.{ℕ, ◌+◌, ◌-◌, ◌*◌, ◌/◌, ◌%◌, ◌==◌, ◌&&◌, nat_lt, nat_le, if◌then◌else◌, List, slice_index}
+use Rattle.std.specs.Prelude.{ℕ, ◌-◌, ◌/◌, ◌%◌, ◌==◌, ◌&&◌, nat_lt, nat_le, if◌then◌else◌, List, slice_index}
 
 -- the byte of a word that stands at an even address and the next one
 abbrev pub byte_of : ℕ → ℕ → ℕ

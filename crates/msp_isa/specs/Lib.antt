@@ -1,2 +1,4 @@
 pub mod Decode
 pub mod Image
+pub mod Rows
+pub mod Taken
