@@ -1,0 +1,4 @@
+-- Lemmas about runs, motes and the law.
+pub mod Waiting
+pub mod Follow
+pub mod Simulate
