@@ -3,3 +3,4 @@ pub mod Pace
 pub mod Allowed
 pub mod Law
 pub mod ConstantWrites
+pub mod EverySchedule
