@@ -35,7 +35,6 @@ use Rattle.preempt_core.proofs.Places.{Place, Boot, Opening, Writing, Sleeping, 
 use Rattle.preempt_core.specs.Law.{is_waiting, one_effect, waiting_effects}
 use Rattle.preempt_core.proofs.Waiting.{waits_line, waiting_le}
 
-
 abbrev pub ops : Bus (Memory Outside)
 ops = memory_bus board_ports
 

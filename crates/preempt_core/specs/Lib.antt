@@ -4,3 +4,4 @@ pub mod Allowed
 pub mod Law
 pub mod ConstantWrites
 pub mod EverySchedule
+pub mod Rows

@@ -56,7 +56,12 @@ pub fn image_of(alloc: Global, writes: &[PortWrite]) -> Result<Image, NoMemory>
     ensures stack { IfOk result (λ i. (b : BoardState) (rows : List Due) (n : ℕ) → 0x3900 ≤ (mote (image_map i.code.items i.vectors) b rows n).least + i.stack) }
 {
     let code = code_of(alloc, writes)?;
-    Ok(Image { code, vectors: vectors_of(writes), ram: 0, stack: 4 })
+    Ok(Image {
+        code,
+        vectors: vectors_of(writes),
+        ram: 0,
+        stack: 4,
+    })
 }
 
 /// A mote with the image of some writes does what the program allows, on every board, with every schedule, after every
@@ -96,5 +101,8 @@ fn vectors_of(writes: &[PortWrite]) -> [u16; 16]
 {
     let line = sleep_address(writes) + SLEEP_BYTES;
     let reset = CODE_START;
-    [line, line, line, line, line, line, line, line, reset, reset, reset, reset, reset, reset, reset, reset]
+    [
+        line, line, line, line, line, line, line, line, reset, reset, reset, reset, reset, reset,
+        reset, reset,
+    ]
 }

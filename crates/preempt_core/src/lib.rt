@@ -3,6 +3,8 @@
 
 mod constant_writes;
 mod law;
+mod rows;
 
 pub use constant_writes::{every_schedule, image_of};
 pub use law::{Simulation, simulated};
+pub use rows::worked_rows;
