@@ -70,6 +70,7 @@ pub fn every_schedule()
     ensures { EverySchedule }
 {}
 
+/// The words of the code, from CODE_START on.
 fn code_of(alloc: Global, writes: &[PortWrite]) -> Result<Vec<u16>, NoMemory>
     requires { length writes.now ≤ 200 }
     ensures { IfOk result (λ code. code.items ≡ writes_code writes.now) }
@@ -88,6 +89,7 @@ fn code_of(alloc: Global, writes: &[PortWrite]) -> Result<Vec<u16>, NoMemory>
     Ok(code)
 }
 
+/// The address behind the writes, where the processor goes to sleep, again after each handler.
 fn sleep_address(writes: &[PortWrite]) -> u16
     requires { length writes.now ≤ 200 }
     ensures { result ≡ 0x4006 + 6 * length writes.now }
@@ -95,6 +97,7 @@ fn sleep_address(writes: &[PortWrite]) -> u16
     CODE_START + PROLOGUE_BYTES + WRITE_BYTES * writes.len() as u16
 }
 
+/// The address of the RETI for each line, and of the code for each other vector.
 fn vectors_of(writes: &[PortWrite]) -> [u16; 16]
     requires { length writes.now ≤ 200 }
     ensures { result ≡ writes_vectors writes.now }
