@@ -140,12 +140,21 @@ module _ (P : Source) (ws : List PortWrite) (short : length ws ≤ 200) (good : 
   handler_waiting true n = refl
   handler_waiting false n = refl
 
+  -- the processor back in the base's code, with this PC, SR and gate
+  abbrev back : BoardState → (ℕ → ℕ) → List Shown → ℕ → ℕ → Bool → Step ops
+  back board ram told pc sr gate = record {
+    after = record {
+      cpu = record { pc = pc; sp = 0x3900; sr = sr; others = replicate 12 0; gate = gate };
+      bus = record { ram = ram; code = writes_image ws; ports = outside_with board told };
+    };
+    stepped = Ran;
+  }
+
   returns : (board : BoardState) (ram : ℕ → ℕ) (told : List Shown) (ph : Phase) → FitsPhase ws ph → IsOpen ph → Saved ws (InHandler ph) ram → Acts P ws (InHandler ph) board ram told
   returns board ram told ph fits open_there saved =
       let j = joined_at ws (InHandler ph) board ram told in
       let e0 : 0x400E + 6 * length ws ≡ 0x4006 + 6 * length ws + 2 * 4 = omega arith in
       let f0 : word_at j.bus j.cpu.pc ≡ 0x1300 = ap (word_at j.bus) e0 ∙ word_left ws short ram (outside_with board told) ws [] 4 (sym (append-nil ws)) (omega arith) in
-      let back = λ (sr pc : ℕ) (t : List Shown) (g : Bool). let k : Step ops = record { after = record { cpu = record { pc = even pc; sp = 0x3900; sr = sr; others = replicate 12 0; gate = g }; bus = record { ram = ram; code = writes_image ws; ports = outside_with board t } }; stepped = Ran } in k in
       let zero_bounds = bounds_open ph open_there in
       let none_now = handler_waiting (is_some (line_of board)) (one_effect P (run_at P (InHandler ph) board) Leave) in
       let s = runs_on ops j 0x1300 _ _ Reti 1 (stays_closed ops j refl) refl f0 refl refl refl in
@@ -157,10 +166,10 @@ module _ (P : Source) (ws : List PortWrite) (short : length ws ≤ 200) (good : 
         stepped = Ran;
         exec_is =
             s
-            ∙ ap (λ x. back x (word_in ram 0x38FE) told (bit x 3)) saved.0
-            ∙ ap (λ x. back (sr_of ph) x told (bit (sr_of ph) 3)) saved.1
-            ∙ ap (λ x. record { after = record { cpu = record { pc = x; sp = 0x3900; sr = sr_of ph; others = replicate 12 0; gate = bit (sr_of ph) 3 }; bus = record { ram = ram; code = writes_image ws; ports = outside_with board told } }; stepped = Ran }) (pc_even ph)
-            ∙ ap (λ g. record { after = record { cpu = record { pc = pc_of ws ph; sp = 0x3900; sr = sr_of ph; others = replicate 12 0; gate = g }; bus = record { ram = ram; code = writes_image ws; ports = outside_with board told } }; stepped = Ran }) (gate_back ph open_there)
+            ∙ ap (λ x. back board ram told (even (word_in ram 0x38FE)) x (bit x 3)) saved.0
+            ∙ ap (λ x. back board ram told (even x) (sr_of ph) (bit (sr_of ph) 3)) saved.1
+            ∙ ap (λ x. back board ram told x (sr_of ph) (bit (sr_of ph) 3)) (pc_even ph)
+            ∙ ap (back board ram told (pc_of ws ph) (sr_of ph)) (gate_back ph open_there)
             ∙ ap (λ t. record { after = joined_at ws (InBase ph) board ram t; stepped = Ran }) (sym (append-nil told));
         legal = ((refl, record { turns = 0; all = refl; ended = refl }), tt);
         after_is = refl;
