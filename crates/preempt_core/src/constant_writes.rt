@@ -29,6 +29,8 @@ const PROLOGUE_BYTES: u16 = 6;
 const WRITE_BYTES: u16 = 6;
 /// The bytes of the instructions that put the processor to sleep.
 const SLEEP_BYTES: u16 = 8;
+/// The bytes that the acceptance of a line pushes.
+const ACCEPTANCE_BYTES: u32 = 4;
 
 /// MOV #n, SP
 const MOV_IMMEDIATE_SP: u16 = 0x4031;
@@ -60,7 +62,7 @@ pub fn image_of(alloc: Global, writes: &[PortWrite]) -> Result<Image, NoMemory>
         code,
         vectors: vectors_of(writes),
         ram: 0,
-        stack: 4,
+        stack: ACCEPTANCE_BYTES,
     })
 }
 
