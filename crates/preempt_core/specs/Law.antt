@@ -1,5 +1,5 @@
 -- A relation between a run's state and a mote's result, kept slot by slot with three numbers, from which Allowed follows.
-use Rattle.std.specs.Prelude.{◌≡◌, ℕ, zero, suc, ◌+◌, ◌*◌, ◌≤◌, Bool, true, false, ◌&&◌, not, if◌then◌else◌, List, [], ◌∷◌, ◌++◌, length, None, is_some, is_none}
+use Rattle.std.specs.Prelude.{◌≡◌, ℕ, suc, ◌+◌, ◌*◌, ◌≤◌, Bool, true, ◌&&◌, not, if◌then◌else◌, List, [], ◌∷◌, ◌++◌, length, None, is_some, is_none}
 use Rattle.nm_base.specs.Lists.{number_of}
 use Rattle.mote_devices.specs.declared.state.BoardState.{BoardState}
 use Rattle.mote_devices.specs.Board.{line_of}
@@ -9,7 +9,7 @@ use Rattle.run_meaning.specs.State.{State, start, is_inside}
 use Rattle.run_meaning.specs.Runs.{AreLegal, after, after_all, shown_by}
 use Rattle.run_meaning.specs.Steps.{Waits, StaysOutside, is_access}
 use Rattle.preempt_core.specs.Mote.{Result}
-use Rattle.preempt_core.specs.Allowed.{Allowed, AtRest}
+use Rattle.preempt_core.specs.Allowed.{AtRest}
 
 -- What may still happen: instructions before the next move; base effects while a line waits, before the gate
 -- opens for it; and instructions before that, outside atomic statements

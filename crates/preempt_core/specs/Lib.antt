@@ -3,3 +3,5 @@ pub mod Pace
 pub mod Allowed
 pub mod Law
 pub mod ConstantWrites
+pub mod EverySchedule
+pub mod Rows
