@@ -1,4 +1,6 @@
 pub mod Tokens
 pub mod Form
 pub mod Status
+pub mod RunText
 pub mod Output
+pub mod MoteState

@@ -15,11 +15,10 @@ use Rattle.core_meaning.specs.declared.PortWrite.{PortWrite}
 use Rattle.core_meaning.specs.Source.{Source}
 use Rattle.core_meaning.specs.ConstantWrites.{WritesConstants}
 use Rattle.msp_isa.specs.Image.{image_map}
-use Rattle.mote_text.specs.ImageText.{image_text}
-use Rattle.mote_text.specs.TraceText.{trace_lines, end_text}
-use Rattle.preempt_core.specs.Mote.{Result, mote, events}
+use Rattle.preempt_core.specs.Mote.{mote}
 use Rattle.preempt_core.specs.Allowed.{Allowed}
 use Rattle.nm_driver.specs.Form.{HasForm}
+use Rattle.nm_driver.specs.RunText.{run_text}
 use Rattle.nm_driver.specs.declared.status.Status.{Status}
 use Rattle.nm_driver.specs.declared.status.Status.TheVariants.{Done, Refused, Usage, Missing, ReadFault, WriteFault, BadSchedule, Limit, TooLarge, NoMemory, BadImage}
 
@@ -142,20 +141,13 @@ line_of words ReadFault = codes "read fault" ++ 10 ∷ []
 line_of words (BadSchedule line) = codes "schedule line " ++ (decimal line ++ 10 ∷ [])
 line_of words _ = []
 
--- what `run` prints: the report, the bytes of data and of stack, the image, and the trace of its run
-abbrev pub run_text : List ℕ → List ℕ → ℕ → ℕ → List (ℕ × Shown) → Result → List ℕ
-run_text code vectors ram stack events m =
-    codes "races 0" ++ 10 ∷ [] ++ codes "data " ++ decimal ram ++ 10 ∷ [] ++ codes "stack " ++ decimal stack ++ 10 ∷ []
-    ++ image_text code vectors
-    ++ codes "trace" ++ 10 ∷ [] ++ trace_lines events ++ end_text m.slots m.ran m.least m.off ++ 10 ∷ []
-
 -- The text is that of an image and of its own run on the empty board, with no rows and 10,000 slots
 pub record IsRunText (writes : List PortWrite) (text : List ℕ) : Type 0 where
   pub code : List ℕ
   pub vectors : List ℕ
   pub ram : ℕ
   pub stack : ℕ
-  pub printed : text ≡ run_text code vectors ram stack (events (image_map code vectors) empty_board [] 10000) (mote (image_map code vectors) empty_board [] 10000)
+  pub printed : text ≡ run_text code vectors ram stack 10000
   -- the image does what the source does, whatever comes in whichever slot ..
   pub allowed : (P : Source) (b : BoardState) (rows : List Due) (pace n : ℕ) → WritesConstants P writes → 3 ≤ pace → Allowed P pace b (mote (image_map code vectors) b rows) n
   -- .. within its stack

@@ -3,7 +3,9 @@
 
 mod answer;
 mod form;
+mod mote;
 mod number;
+mod output;
 mod status;
 mod tokens;
 

@@ -1,0 +1,52 @@
+-- The writes of a form are writes to ports of devices.
+use Rattle.std.proofs.Common.{◌≡◌, ℕ, ◌*◌, ◌/◌, ◌<◌, ◌≤◌, ◌==◌, Bool, true, false, ◌&&◌, cond, nat_lt, List, [], ◌∷◌, length, map, drop, get_or, Option, Some, None, arith, refl, sym, ap, subst, ◌∙◌}
+use Rattle.std.specs.List.{AllByRecursion}
+use Rattle.std.specs.Str.Parse.{digits_value}
+use Rattle.std.proofs.lemmas.Bool.{and_parts}
+use Rattle.std.proofs.lemmas.Bool.Decides.{nat_tests}
+use Rattle.core_meaning.specs.declared.PortWrite.{PortWrite}
+use Rattle.core_meaning.specs.ConstantWrites.{IsWrite, IsWritable}
+use Rattle.nm_driver.specs.Form.{AreStatements, IsWritten, Written, is_device_port, is_numeral, number, numeral}
+use Rattle.nm_driver.proofs.Numerals.{test_holds}
+
+numeral_small : (base : ℕ) (ds : List ℕ) (v : ℕ) → numeral base ds ≡ Some v → v < 0x10000
+numeral_small base ds v h = by_test (is_numeral base ds) refl
+  where
+    by_test : (t : Bool) → is_numeral base ds ≡ t → v < 0x10000
+    by_test true e =
+        let k = sym (ap (λ b. cond b (Some (digits_value base ds)) None) e) ∙ h in
+        let same : digits_value base ds ≡ v = cc in
+        subst (λ n. n < 0x10000) same (test_holds base ds e).1
+    by_test false e = let k = sym (ap (λ b. cond b (Some (digits_value base ds)) None) e) ∙ h in absurd (apart k)
+      where
+        apart : None ≡ Some v → ⊥
+        apart k = cc
+
+number_small : (token : List ℕ) (v : ℕ) → number token ≡ Some v → v < 0x10000
+number_small token v h = by_tests (get_or token 0 0 == 48 && get_or token 1 0 == 120) (get_or token 0 0 == 48 && nat_lt 1 (length token)) h
+  where
+    by_tests : (x y : Bool) → cond x (numeral 16 (drop 2 token)) (cond y None (numeral 10 token)) ≡ Some v → v < 0x10000
+    by_tests true y k = numeral_small 16 (drop 2 token) v k
+    by_tests false true k = absurd (apart k)
+      where
+        apart : None ≡ Some v → ⊥
+        apart k = cc
+    by_tests false false k = numeral_small 10 token v k
+
+writable : (p : ℕ) → is_device_port p ≡ true → IsWritable p
+writable p h =
+    let a = and_parts (nat_lt 0x011F p && nat_lt p 0x0160) (2 * (p / 2) == p) h in
+    let b = and_parts (nat_lt 0x011F p) (nat_lt p 0x0160) a.0 in
+    let low = b.0 in
+    let high = b.1 in
+    let even = a.1 in
+    record { low = grind (arith, nat_tests); high = grind (arith, nat_tests); even = grind (arith, nat_tests); no_fault = grind (arith, nat_tests) }
+
+pub good_writes : (tokens : List (List ℕ)) (ws : List PortWrite) → AreStatements tokens ws → AllByRecursion IsWrite ws
+good_writes tokens ws h = subst (AllByRecursion IsWrite) (sym h.these) (each h.written h.are_written)
+  where
+    each : (written : List Written) → AllByRecursion IsWritten written → AllByRecursion IsWrite (map (λ w. w.write) written)
+    each [] good = tt
+    each (w ∷ written) good =
+        let g = good.0 in
+        (record { port = writable w.write.port g.at_device; small = number_small w.value w.write.value g.value }, each written good.1)
