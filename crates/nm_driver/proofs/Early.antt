@@ -1,13 +1,11 @@
 -- A step of a mote that keeps the first four events is a step of one that keeps all.
-use Rattle.std.proofs.Common.{◌≡◌, ℕ, suc, ◌%◌, ◌<◌, ◌≤◌, ◌==◌, Bool, true, false, cond, nat_lt, List, [], ◌∷◌, ◌++◌, length, Option, arith, refl, sym, ap, subst, ◌∙◌, append_assoc, append-nil, length-append}
+use Rattle.std.proofs.Common.{◌≡◌, ℕ, suc, ◌%◌, ◌<◌, ◌≤◌, ◌==◌, Bool, true, false, cond, nat_lt, List, [], ◌∷◌, ◌++◌, length, Option, arith, refl, sym, ap, subst, ◌∙◌, append_assoc, length-append}
 use Rattle.std.proofs.lemmas.Bool.Decides.{nat_tests}
-use Rattle.nm_base.specs.Ports.{Ports}
 use Rattle.mote_devices.specs.declared.state.BoardState.{BoardState}
 use Rattle.mote_devices.specs.declared.shown.Shown.{Shown}
 use Rattle.mote_devices.specs.declared.shown.Shown.TheVariants as shown
 use Rattle.mote_devices.specs.Board.{board_answer, board_read, board_write, board_ack}
 use Rattle.mote_devices.specs.Outside.{Outside, board_ports, early_ports, with_early_event, first_code}
-use Rattle.msp430_cpu.specs.Cpu.{Cpu}
 use Rattle.msp430_cpu.specs.Memory.{Memory, memory_bus}
 use Rattle.msp430_cpu.specs.Exec.{Joined, exec}
 use Rattle.msp430_cpu.proofs.Related.{AreSteps, same_step}

@@ -1,17 +1,17 @@
 -- One step of the mote that is kept is one slot of the mote that it stands for.
-use Rattle.std.proofs.Common.{◌≡◌, ℕ, ◌+◌, ◌<◌, ◌≤◌, ◌==◌, Bool, true, false, cond, min, List, [], ◌∷◌, ◌++◌, length, drop, Option, Some, None, arith, refl, sym, ap, subst, ◌∙◌, append_assoc, append-nil}
+use Rattle.std.proofs.Common.{◌≡◌, ◌+◌, Bool, true, false, cond, min, List, [], ◌∷◌, ◌++◌, arith, refl, sym, ap, subst, ◌∙◌, append_assoc, append-nil}
 use Rattle.mote_devices.specs.declared.shown.Shown.{Shown}
 use Rattle.mote_devices.specs.declared.shown.Shown.TheVariants as shown
-use Rattle.mote_devices.specs.Outside.{Outside, board_ports, early_ports, first_code}
+use Rattle.mote_devices.specs.Outside.{Outside, board_ports, early_ports}
 use Rattle.msp430_cpu.specs.declared.cpu.Stepped.{Stepped}
 use Rattle.msp430_cpu.specs.declared.cpu.Stepped.TheVariants.{Ran, Idle, Entered, Stopped}
 use Rattle.msp430_cpu.specs.Cpu.{Cpu}
 use Rattle.msp430_cpu.specs.Memory.{Memory, memory_bus}
-use Rattle.msp430_cpu.specs.Exec.{Joined, Step, exec}
-use Rattle.msp430_cpu.specs.Slots.{Running, slot, counted, counts, is_stopped, is_illegal, is_idle, in_ports, told_of}
+use Rattle.msp430_cpu.specs.Exec.{Joined, exec}
+use Rattle.msp430_cpu.specs.Slots.{Running, slot, counted, counts, is_stopped, is_illegal, in_ports, told_of}
 use Rattle.nm_driver.specs.declared.mote.Mote.{Mote}
 use Rattle.nm_driver.specs.MoteState.{Follows, joined_of, forgotten, new_events}
-use Rattle.nm_driver.proofs.Early.{IsEarly, early_step}
+use Rattle.nm_driver.proofs.Early.{early_step}
 
 goes_on_legal : (s : Stepped) → is_stopped s ≡ false → is_illegal s ≡ false
 goes_on_legal Ran h = refl

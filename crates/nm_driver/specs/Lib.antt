@@ -4,3 +4,4 @@ pub mod Status
 pub mod RunText
 pub mod Output
 pub mod MoteState
+pub mod Content

@@ -1,12 +1,12 @@
 -- A mote as it is kept, and the mote that it stands for.
-use Rattle.std.specs.Prelude.{◌≡◌, ℕ, Bool, false, List, [], ◌∷◌, ◌++◌, map, drop, length, if◌then◌else◌}
+use Rattle.std.specs.Prelude.{◌≡◌, ℕ, false, List, [], ◌∷◌, ◌++◌, map, drop, length, if◌then◌else◌}
 use Rattle.mote_devices.specs.declared.shown.Shown.{Shown}
 use Rattle.mote_devices.specs.declared.shown.Shown.TheVariants as shown
 use Rattle.mote_devices.specs.Controller.{controller_kept}
 use Rattle.mote_devices.specs.Outside.{Outside, board_ports}
 use Rattle.msp430_cpu.specs.declared.cpu.Stepped.{Stepped}
 use Rattle.msp430_cpu.specs.Kept.{memory_of}
-use Rattle.msp430_cpu.specs.Memory.{Memory, with_ports}
+use Rattle.msp430_cpu.specs.Memory.{Memory}
 use Rattle.msp430_cpu.specs.Exec.{Joined}
 use Rattle.msp430_cpu.specs.Slots.{Running, slot, in_ports, is_illegal}
 use Rattle.nm_driver.specs.declared.mote.Mote.{Mote}

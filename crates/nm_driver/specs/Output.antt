@@ -1,7 +1,5 @@
 -- What the top call answers and writes.
 use Rattle.std.specs.Prelude.{◌≡◌, ◌<◌, ◌≤◌, ◌⊎◌, ℕ, ◌+◌, ◌/◌, ◌%◌, List, [], ◌∷◌, ◌++◌, Option, Some, None, length, codes, decimal}
-use Rattle.nm_base.specs.declared.limit.Limit.{Limit as LimitPassed}
-use Rattle.nm_base.specs.declared.pos.Pos.{Pos}
 use Rattle.nm_base.specs.declared.refusal.Left.TheVariants.{Later}
 use Rattle.nm_base.specs.declared.refusal.Refusal.{Refusal}
 use Rattle.nm_base.specs.declared.refusal.Refusal.TheVariants.{LeftOut}
@@ -9,8 +7,6 @@ use Rattle.nm_base.specs.Outside.{appended, AppendsPart}
 use Rattle.nm_base.specs.Words.{left_word, refusal_number, refusal_pos}
 use Rattle.mote_devices.specs.declared.state.BoardState.{BoardState}
 use Rattle.mote_devices.specs.declared.shown.Due.{Due}
-use Rattle.mote_devices.specs.declared.shown.Shown.{Shown}
-use Rattle.mote_devices.specs.Board.{empty_board}
 use Rattle.core_meaning.specs.declared.PortWrite.{PortWrite}
 use Rattle.core_meaning.specs.Source.{Source}
 use Rattle.core_meaning.specs.ConstantWrites.{WritesConstants}

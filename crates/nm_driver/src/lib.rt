@@ -8,5 +8,7 @@ mod number;
 mod output;
 mod status;
 mod tokens;
+mod top_call;
 
 pub use status::Status;
+pub use top_call::tool;

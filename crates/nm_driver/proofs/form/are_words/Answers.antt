@@ -1,4 +1,4 @@
-use Rattle.std.proofs.Common.{◌≡◌, ◌≤◌, true, false, length, arith, sym, ap, ◌∙◌}
+use Rattle.std.proofs.Common.{◌≡◌, true, false, arith, sym, ◌∙◌}
 use Rattle.nm_driver.proofs.WordLists.{same_at, same_more, differ, agree}
 use Rattle.nm_driver.proofs.form.are_words.Goals as goal
 

@@ -1,4 +1,4 @@
-use Rattle.std.proofs.Common.{◌≡◌, List, map, take, ℕ, Bor}
+use Rattle.std.proofs.Common.{◌≡◌, map, take}
 use Rattle.nm_driver.proofs.form.are_words.Given as goal
 
 -- the front is the same

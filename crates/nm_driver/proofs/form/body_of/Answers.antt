@@ -1,6 +1,6 @@
-use Rattle.std.proofs.Common.{◌≡◌, ◌-◌, ◌≤◌, true, false, List, ◌++◌, ◌∷◌, [], length, take, drop, arith, refl, sym, ap, ◌∙◌}
+use Rattle.std.proofs.Common.{◌≡◌, ◌-◌, true, false, ◌++◌, ◌∷◌, [], length, take, drop, arith, refl, sym, ap, ◌∙◌}
 use Rattle.std.specs.Prelude.{codes}
-use Rattle.nm_driver.specs.Form.{head, specification, tail}
+use Rattle.nm_driver.specs.Form.{head}
 use Rattle.nm_driver.proofs.Statements.{cut_in, last_two, rest_of}
 use Rattle.nm_driver.proofs.form.body_of.Goals as goal
 use Rattle.nm_driver.proofs.form.body_of.Goals.{else-are_words-via-then-are_words+then-are_words-2+else-are_words-3, else-are_words-via-then-are_words+else-are_words-2, else-are_words-via-else-are_words}

@@ -1,4 +1,3 @@
-use Rattle.std.proofs.Common.{◌≡◌, ◌∙◌, refl}
 use Rattle.nm_driver.specs.Form.{keywords}
 use Rattle.nm_driver.proofs.form.is_keyword.Goals as goal
 

@@ -1,4 +1,4 @@
-use Rattle.std.proofs.Common.{◌≡◌, ◌++◌, List, length}
+use Rattle.std.proofs.Common.{◌++◌, List, length}
 use Rattle.core_meaning.specs.declared.PortWrite.{PortWrite}
 use Rattle.nm_driver.specs.Form.{AreStatements}
 use Rattle.nm_driver.proofs.form.writes_in.Given as goal

@@ -1,7 +1,7 @@
-use Rattle.std.proofs.Common.{◌≡◌, ℕ, List, [], ◌∷◌, ◌++◌, string_bytes, arith, refl, sym, ap, ◌∙◌}
+use Rattle.std.proofs.Common.{◌≡◌, ℕ, List, [], ◌∷◌, ◌++◌, string_bytes, arith, ap, ◌∙◌}
 use Rattle.mote_devices.specs.Board.{empty_board}
 use Rattle.msp_isa.specs.Image.{image_map}
-use Rattle.preempt_core.specs.Mote.{mote_after, events}
+use Rattle.preempt_core.specs.Mote.{mote_after}
 use Rattle.msp430_cpu.specs.Cpu.{cpuoff}
 use Rattle.mote_text.specs.declared.trace.End.{End}
 use Rattle.mote_text.specs.TraceText.{trace_lines, end_text}

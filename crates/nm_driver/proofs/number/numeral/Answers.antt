@@ -1,6 +1,5 @@
-use Rattle.std.proofs.Common.{◌≡◌, ◌==◌, false, sym, ap, ◌∙◌, arith}
+use Rattle.std.proofs.Common.{sym, ◌∙◌, arith}
 use Rattle.std.proofs.lemmas.Bool.Decides.{nat_tests}
-use Rattle.nm_driver.specs.Form.{numeral}
 use Rattle.nm_driver.proofs.Numerals.{no_text, reads}
 use Rattle.nm_driver.proofs.number.numeral.Goals as goal
 

@@ -1,4 +1,4 @@
-use Rattle.std.proofs.Common.{◌≡◌, ℕ, zero, suc, ◌+◌, ◌-◌, ◌<◌, ◌≤◌, true, false, List, [], ◌∷◌, ◌++◌, length, take, drop, get_or, Some, None, arith, refl, sym, ap, ◌∙◌, append-nil}
+use Rattle.std.proofs.Common.{◌≡◌, ℕ, ◌+◌, ◌-◌, true, List, [], ◌∷◌, ◌++◌, take, drop, get_or, Some, arith, sym, ap, ◌∙◌}
 use Rattle.std.specs.List.{list_all}
 use Rattle.nm_driver.specs.Tokens.{is_word_byte, if_some, tokens_of}
 use Rattle.nm_driver.proofs.Cutting.{behind, behind-behind, more_letters, cut_at, cut_end, blank_then, sign_then, nothing_then, one_byte, to_the_end}

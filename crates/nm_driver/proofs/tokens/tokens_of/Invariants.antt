@@ -1,4 +1,4 @@
-use Rattle.std.proofs.Common.{◌≡◌, ◌-◌, ◌≤◌, length, take, drop, true}
+use Rattle.std.proofs.Common.{◌≡◌, ◌-◌, ◌≤◌, take, drop, true}
 use Rattle.std.specs.List.{list_all}
 use Rattle.nm_driver.specs.Tokens.{is_word_byte, tokens_of}
 use Rattle.nm_driver.proofs.Cutting.{behind}

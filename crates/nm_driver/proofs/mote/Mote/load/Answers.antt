@@ -1,5 +1,5 @@
 use Rattle.std.proofs.Common.{refl, ap, ◌∙◌}
-use Rattle.msp430_cpu.specs.Cpu.{Cpu, even, reset}
+use Rattle.msp430_cpu.specs.Cpu.{even, reset}
 use Rattle.msp430_cpu.specs.Memory.{Memory, word_at}
 use Rattle.mote_devices.specs.Outside.{Outside}
 use Rattle.nm_driver.proofs.mote.Mote.load.Goals as goal

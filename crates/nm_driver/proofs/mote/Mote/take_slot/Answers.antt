@@ -3,7 +3,7 @@ use Rattle.std.specs.declared.result.Result.{Result}
 use Rattle.std.specs.declared.result.Result.TheVariants.{Ok, Err}
 use Rattle.mote_devices.specs.declared.shown.Shown.{Shown}
 use Rattle.mote_text.specs.TraceText.{trace_lines}
-use Rattle.nm_driver.specs.MoteState.{joined_of, new_events, slot_events}
+use Rattle.nm_driver.specs.MoteState.{joined_of, new_events}
 use Rattle.nm_driver.proofs.Slots.{takes_slot, next}
 use Rattle.nm_driver.proofs.mote.Mote.take_slot.Goals as goal
 
