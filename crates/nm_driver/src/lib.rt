@@ -12,3 +12,6 @@ mod top_call;
 
 pub use status::Status;
 pub use top_call::tool;
+
+#[cfg(test)]
+mod tests;
