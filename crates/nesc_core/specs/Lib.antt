@@ -1,1 +1,4 @@
 pub mod Plain
+pub mod View
+pub mod Nodes
+pub mod Size

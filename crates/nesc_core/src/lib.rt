@@ -1,8 +1,14 @@
 //! The wired program: its types, sizes, nodes and weights.
 #![tactic(auto)]
 
+mod layout;
+mod node_count;
+mod sizes;
 mod tree;
 
+pub use layout::Layout;
+pub use node_count::nodes;
+pub use sizes::size;
 pub use tree::{
     BinOp, Body, CoreExpr, CoreStmt, CoreType, Field, Object, Place, Program, Structs, UnOp,
     Warning,
