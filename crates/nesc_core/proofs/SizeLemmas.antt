@@ -76,7 +76,6 @@ type_layout-same g h n same (struct k) names = same k names
 
 module _ (structs : List (List Field)) (lower : (k : ℕ) → k < length structs → All (λ f. NamesBelow k f.ty) (get_or structs k [])) where
   pub struct_at-same : (m n k : ℕ) → k < m → k < n → k < length structs → struct_at structs m k ≡ struct_at structs n k
-  unfolding struct_at
   struct_at-same zero n k km kn inside = absurd (omega arith)
   struct_at-same (suc m) zero k km kn inside = absurd (omega arith)
   struct_at-same (suc m) (suc n) k km kn inside =
@@ -87,7 +86,6 @@ module _ (structs : List (List Field)) (lower : (k : ℕ) → k < length structs
 
   pub struct_at-whole : (k : ℕ) → k < length structs
       → struct_at structs (length structs) k ≡ struct_of_fields (fields_layout (map (λ f. type_layout (struct_at structs (length structs)) f.ty) (get_or structs k [])))
-  unfolding struct_at
   struct_at-whole k inside = struct_at-same (length structs) (suc (length structs)) k inside (omega arith) inside
 
 -- ---- fields
