@@ -1,0 +1,86 @@
+-- Where the parts of objects lie, to which a pointer may point (C99, 6.2.6.1 and 6.7.2.1; which ones are checked is own).
+use Rattle.std.specs.Prelude.{ℕ, zero, suc, ◌+◌, ◌==◌, Bool, true, false, ◌&&◌, if◌then◌else◌, List, [], ◌∷◌, ◌++◌, length, map, slice_index_or}
+use Rattle.std.specs.List.{filter, flat_map}
+use Rattle.nm_base.specs.declared.int_type.IntType.{IntType}
+use Rattle.nm_base.specs.declared.int_type.IntType.TheVariants.{I8, U8, I16, U16, I32, U32}
+use Rattle.nesc_core.specs.declared.layout.Layout.{Layout}
+use Rattle.nesc_core.specs.Plain.{Ty, void, int, pointer, array, struct, Field, Object, Program}
+use Rattle.nesc_core.specs.Size.{layout, rounded, with_field, type_layout, struct_at, layout_of}
+
+pub record Part : Type 0 where
+  pub address : ℕ
+  pub ty : Ty
+
+abbrev pub same_int : IntType → IntType → Bool
+same_int I8 I8 = true
+same_int U8 U8 = true
+same_int I16 I16 = true
+same_int U16 U16 = true
+same_int I32 I32 = true
+same_int U32 U32 = true
+same_int _ _ = false
+
+abbrev pub same_type : Ty → Ty → Bool
+same_type void void = true
+same_type (int s) (int t) = same_int s t
+same_type (pointer s) (pointer t) = same_type s t
+same_type (array s m) (array t n) = (m == n) && same_type s t
+same_type (struct j) (struct k) = j == k
+same_type _ _ = false
+
+-- the parts of n elements of this size, the first at address a
+abbrev pub parts_of_elements : (ℕ → List Part) → (size n a : ℕ) → List Part
+parts_of_elements parts size zero a = []
+parts_of_elements parts size (suc n) a = parts a ++ parts_of_elements parts size n (a + size)
+
+-- the parts of fields, behind those that are done, of a struct at address a
+abbrev pub parts_of_fields : (Ty → ℕ → List Part) → (Ty → Layout) → (a : ℕ) → (done : Layout) → List Field → List Part
+parts_of_fields parts lies a done [] = []
+parts_of_fields parts lies a done (f ∷ fs) =
+    parts f.ty (a + rounded done.size (lies f.ty).align) ++ parts_of_fields parts lies a (with_field done (lies f.ty)) fs
+
+-- the parts of a value of a type at an address: itself and, again, its elements and fields; given those of the structs
+abbrev pub parts_of : (ℕ → Layout) → (ℕ → ℕ → List Part) → Ty → ℕ → List Part
+parts_of of_struct in_struct void = λ a. record { address = a; ty = void } ∷ []
+parts_of of_struct in_struct (int t) = λ a. record { address = a; ty = int t } ∷ []
+parts_of of_struct in_struct (pointer t) = λ a. record { address = a; ty = pointer t } ∷ []
+parts_of of_struct in_struct (array t n) = λ a.
+    record { address = a; ty = array t n } ∷ parts_of_elements (parts_of of_struct in_struct t) (type_layout of_struct t).size n a
+parts_of of_struct in_struct (struct k) = λ a. record { address = a; ty = struct k } ∷ in_struct k a
+
+-- the parts of the fields of struct k, where structs stand at most `depth` deep in one another
+abbrev pub parts_in_struct : List (List Field) → (depth : ℕ) → (k a : ℕ) → List Part
+parts_in_struct structs zero k a = []
+parts_in_struct structs (suc depth) k a =
+    parts_of_fields (parts_of (struct_at structs depth) (parts_in_struct structs depth)) (type_layout (struct_at structs depth)) a
+    (layout 0 1) (slice_index_or structs k [])
+
+abbrev pub parts_of_object : List (List Field) → Object → List Part
+parts_of_object structs o = parts_of (struct_at structs (length structs)) (parts_in_struct structs (length structs)) o.ty o.addr
+
+-- the parts of the objects whose address is taken
+abbrev pub taken_parts : Program → List Part
+taken_parts p = flat_map (parts_of_object p.structs) (filter (λ o. o.taken) p.objects)
+
+-- the addresses of those of type t
+abbrev pub parts : Program → Ty → List ℕ
+parts p t = map (λ x. x.address) (filter (λ x. same_type x.ty t) (taken_parts p))
+
+-- adjacent parts: the address of the first, and how many they are
+pub record Run : Type 0 where
+  pub first : ℕ
+  pub count : ℕ
+
+-- one more part in front
+abbrev pub with_part : (size address : ℕ) → List Run → List Run
+with_part size a [] = record { first = a; count = 1 } ∷ []
+with_part size a (r ∷ rs) =
+    if a + size == r.first then record { first = a; count = r.count + 1 } ∷ rs else record { first = a; count = 1 } ∷ r ∷ rs
+
+-- the runs of parts of this size, whose addresses rise
+abbrev pub runs : (size : ℕ) → List ℕ → List Run
+runs size [] = []
+runs size (a ∷ rest) = with_part size a (runs size rest)
+
+abbrev pub runs_of : Program → Ty → List Run
+runs_of p t = runs (layout_of p.structs t).size (parts p t)
