@@ -1,2 +1,9 @@
 pub mod Source
+pub mod Behaviour
+pub mod Numbers
+pub mod Layout
+pub mod Work
+pub mod Flow
+pub mod Act
+pub mod SourceOf
 pub mod ConstantWrites
