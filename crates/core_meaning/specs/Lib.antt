@@ -7,3 +7,4 @@ pub mod Flow
 pub mod Act
 pub mod SourceOf
 pub mod ConstantWrites
+pub mod BootBody

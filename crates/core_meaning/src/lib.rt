@@ -9,3 +9,7 @@ pub struct PortWrite {
     pub port: u16,
     pub value: u16,
 }
+
+mod constant_writes;
+
+pub use constant_writes::boot_actions_of_writes;
