@@ -8,3 +8,4 @@ pub mod Act
 pub mod SourceOf
 pub mod ConstantWrites
 pub mod BootBody
+pub mod Rows
