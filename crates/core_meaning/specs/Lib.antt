@@ -9,3 +9,4 @@ pub mod SourceOf
 pub mod ConstantWrites
 pub mod BootBody
 pub mod Rows
+pub mod Growth
