@@ -1,14 +1,15 @@
 -- Worked examples: bodies whose actions were gone through by hand, beside their nesC.
-use Rattle.std.specs.Prelude.{◌≡◌, ℕ, pos, Bool, true, false, List, [], ◌∷◌, codes, Some, None}
+use Rattle.std.specs.Prelude.{◌≡◌, ℕ, pos, ◌+◌, Bool, true, false, List, [], ◌∷◌, codes, Some, None}
 use Rattle.nm_base.specs.declared.action.Action.{Action}
 use Rattle.nm_base.specs.declared.action.Action.TheVariants.{Load, Store, In, Out, Post, Begin, End, Tick, Fault}
 use Rattle.nm_base.specs.declared.int_type.IntType.TheVariants.{U8, I16, U16, I32, U32}
 use Rattle.nm_base.specs.declared.pos.Pos.{Pos}
 use Rattle.nesc_core.specs.declared.tree.UnOp.TheVariants.{Neg}
 use Rattle.nesc_core.specs.declared.tree.BinOp.TheVariants.{Add, Div, Rem, Shl, Shr, Lt}
-use Rattle.nesc_core.specs.Plain.{Ty, Expr, Place, Stmt, Stmts, Field, Object, Body, Program, void, int, pointer, array, struct, no_exprs, no_stmts, more_stmts, object, local, deref, index, field, const, read, addr, un, bin, convert, offset, assign, update, call, post, port_in, port_out, eval, block, loop, switch, break, continue, return, atomic, clear, here}
+use Rattle.nesc_core.specs.Plain.{Ty, Expr, Exprs, Place, Stmt, Stmts, Field, Object, Body, Program, void, int, pointer, array, struct, no_exprs, more_exprs, no_stmts, more_stmts, object, local, deref, index, field, const, read, addr, un, bin, convert, offset, distance, assign, update, call, post, port_in, port_out, eval, block, loop, switch, break, continue, return, atomic, clear, here}
 use Rattle.core_meaning.specs.Source.{Performed}
-use Rattle.core_meaning.specs.SourceOf.{source_of}
+use Rattle.core_meaning.specs.SourceOf.{source_of, handler_in, put_last}
+use Rattle.core_meaning.specs.NumberRows.{NumberRows}
 use Rattle.core_meaning.specs.BootBody.{constant_writes_program}
 
 -- ---- short forms
@@ -199,9 +200,38 @@ abbrev pub one_c : Program
 one_c = constant_writes_program (codes "OneC")
     (record { port = 0x0120; value = 5; is_decimal = true } ∷ record { port = 0x0120; value = 2; is_decimal = true } ∷ [])
 
+-- ---- uint8_t x[4]; uint16_t y[4]; at 0x1100 and 0x1104; port_write(0x0130, &y[3] - &y[1]); and with the ends exchanged
+
+abbrev pub apart : Program
+apart = program [] (variable (array (int U8) 4) 0x1100 true ∷ variable (array (int U16) 4) 0x1104 true ∷ []) (function [] void (
+    out (convert U16 (distance (addr (index (object 1) (number 3))) (addr (index (object 1) (number 1))) 2)) ∷
+    out (convert U16 (distance (addr (index (object 1) (number 1))) (addr (index (object 1) (number 3))) 2)) ∷ []) ∷ [])
+
+-- ---- uint16_t add(uint16_t a, uint16_t b) { uint16_t c; c = a + b; return c; } port_write(0x0130, add(port_read(0x0132), 7));
+
+abbrev pub add_arguments : Exprs
+add_arguments = more_exprs (port_in 0x0132) (more_exprs (convert U16 (number 7)) no_exprs)
+
+-- with the locals from the first on
+abbrev pub add_code : (first : ℕ) → Stmt
+add_code first = block (statements (
+    clear (first + 2) ∷ put (local (first + 2)) (bin Add U16 (read (local first) at) (read (local (first + 1)) at)) ∷
+    return (Some (read (local (first + 2)) at)) ∷ []))
+
+abbrev pub adding : Program
+adding = program [] [] (
+    function [] void (out (call 1 add_arguments at) ∷ []) ∷
+    function (int U16 ∷ int U16 ∷ int U16 ∷ []) (int U16) (add_code 0 ∷ []) ∷ [])
+
+-- the call inlined behind a local of the caller's
+abbrev pub adding_inlined : Program
+adding_inlined = program [] [] (function (int U8 ∷ int U16 ∷ int U16 ∷ int U16 ∷ int U16 ∷ []) void (
+    here add_arguments 1 3 (add_code 1) ∷ out (read (local 4) at) ∷ []) ∷ [])
+
 pub record WorkedRows : Type 0 where
   pub one_c_boots : (answers : List ℕ) (n : ℕ) → (source_of one_c).act 4 answers n
       ≡ ends (Begin ∷ Tick ∷ Tick ∷ Tick ∷ Tick ∷ End ∷ Tick ∷ Out 0x0120 5 ∷ Out 0x0120 2 ∷ Tick ∷ [])
+  pub arithmetic : NumberRows
   pub number_row : does numbers [] 0 ≡ ends (outs (300 ∷ 44 ∷ 32768 ∷ 0 ∷ 65535 ∷ 0 ∷ 4464 ∷ 65533 ∷ 65535 ∷ []))
   pub increment_answered : does increment (41 ∷ []) 0 ≡ ends (Load 0x1100 true ∷ Store 0x1100 true 42 ∷ [])
   pub increment_wraps : does increment (65535 ∷ []) 0 ≡ ends (Load 0x1100 true ∷ Store 0x1100 true 0 ∷ [])
@@ -226,3 +256,9 @@ pub record WorkedRows : Type 0 where
   pub post_answered : does posting (5 ∷ []) 0 ≡ ends (Post 3 ∷ Out 0x0130 5 ∷ [])
   pub case_falls_through : does choosing (1 ∷ []) 0 ≡ ends (In 0x0132 ∷ Out 0x0130 1 ∷ Out 0x0130 2 ∷ [])
   pub default_chosen : does choosing (9 ∷ []) 0 ≡ ends (In 0x0132 ∷ Out 0x0130 2 ∷ [])
+  pub elements_between : does apart [] 0 ≡ ends (outs (2 ∷ 65534 ∷ []))
+  pub arguments_first : does adding (5 ∷ []) 0 ≡ ends (In 0x0132 ∷ Tick ∷ Tick ∷ Out 0x0130 12 ∷ [])
+  pub arguments_inlined : does adding_inlined (5 ∷ []) 0 ≡ ends (In 0x0132 ∷ Tick ∷ Tick ∷ Out 0x0130 12 ∷ [])
+  pub handler_found : handler_in ((2, 0) ∷ (5, 1) ∷ (2, 1) ∷ []) 2 ≡ Some 0
+  pub no_handler : handler_in ((2, 0) ∷ (5, 1) ∷ (2, 1) ∷ []) 3 ≡ None
+  pub posted_last : put_last (4 ∷ 1 ∷ []) 3 ≡ 4 ∷ 1 ∷ 3 ∷ []
