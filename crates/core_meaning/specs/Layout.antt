@@ -1,58 +1,14 @@
--- Sizes and alignments of types, where elements and fields lie (own, after C99, 6.2.6 and 6.7.2.1), and which parts of the
--- objects a pointer may point to.
-use Rattle.std.specs.Prelude.{ℕ, zero, suc, ◌+◌, ◌*◌, ◌%◌, ◌==◌, max, Bool, true, false, ◌&&◌, ◌||◌, if◌then◌else◌, List, [], ◌∷◌, ◌++◌, map, length, take, Option, Some, None, slice_get, slice_index_or}
-use Rattle.std.specs.Prelude.{fold}
+-- The types of places, where elements and fields lie (C99, 6.7.2.1), and which parts of the objects a pointer may point to
+-- (own).
+use Rattle.std.specs.Prelude.{ℕ, zero, suc, ◌+◌, ◌==◌, Bool, true, false, ◌&&◌, ◌||◌, if◌then◌else◌, List, [], ◌∷◌, ◌++◌, map, length, take, Option, Some, None, slice_get, slice_index_or}
 use Rattle.nm_base.specs.declared.int_type.IntType.{IntType}
 use Rattle.nm_base.specs.declared.int_type.IntType.TheVariants.{I8, U8, I16, U16, I32, U32}
 use Rattle.nesc_core.specs.Plain.{Ty, void, int, pointer, array, struct, Place, Field, Object, Program}
 use Rattle.nesc_core.specs.Plain as plain
-
--- in bytes
-pub record Layout : Type 0 where
-  pub size : ℕ
-  pub align : ℕ
-
-abbrev pub int_layout : IntType → Layout
-int_layout I8 = record { size = 1; align = 1 }
-int_layout U8 = record { size = 1; align = 1 }
-int_layout I16 = record { size = 2; align = 2 }
-int_layout U16 = record { size = 2; align = 2 }
-int_layout I32 = record { size = 4; align = 2 }
-int_layout U32 = record { size = 4; align = 2 }
-
--- the next offset of this alignment, which is 1 or 2
-abbrev pub rounded : ℕ → ℕ → ℕ
-rounded size align = if align == 2 then size + size % 2 else size
-
--- one more field behind those so far
-abbrev pub with_field : Layout → Layout → Layout
-with_field done f = record { size = rounded done.size f.align + f.size; align = max done.align f.align }
-
-abbrev pub fields_layout : List Layout → Layout
-fields_layout fs = fold with_field (record { size = 0; align = 1 }) fs
-
-abbrev pub struct_of_fields : Layout → Layout
-struct_of_fields fs = record { size = rounded fs.size fs.align; align = fs.align }
-
--- the layout of a type, given those of the structs
-abbrev pub type_layout : (ℕ → Layout) → Ty → Layout
-type_layout of_struct void = record { size = 0; align = 1 }
-type_layout of_struct (int t) = int_layout t
-type_layout of_struct (pointer t) = record { size = 2; align = 2 }
-type_layout of_struct (array t n) = let e = type_layout of_struct t in record { size = e.size * n; align = e.align }
-type_layout of_struct (struct k) = of_struct k
-
--- the layout of struct k, where structs stand at most `depth` deep in one another
-abbrev pub struct_at : List (List Field) → (depth : ℕ) → ℕ → Layout
-struct_at structs zero k = record { size = 0; align = 1 }
-struct_at structs (suc depth) k =
-    struct_of_fields (fields_layout (map (λ f. type_layout (struct_at structs depth) f.ty) (slice_index_or structs k [])))
-
-abbrev pub layout_of : Program → Ty → Layout
-layout_of p t = type_layout (struct_at p.structs (length p.structs)) t
+use Rattle.core_meaning.specs.Size.{Layout, layout, rounded, with_field, fields_layout, type_layout, struct_at, layout_of}
 
 abbrev pub size_of : Program → Ty → ℕ
-size_of p t = (layout_of p t).size
+size_of p t = (layout_of p.structs t).size
 
 -- ---- the types of places
 
@@ -91,8 +47,8 @@ type_of p types (plain.field place k) = field_type (slice_get (fields_of p (type
 -- how far from its struct's address field k lies
 abbrev pub field_offset : Program → Ty → ℕ → ℕ
 field_offset p t k =
-    let before = fields_layout (map (λ f. layout_of p f.ty) (take k (fields_of p t))) in
-    rounded before.size (layout_of p (field_type (slice_get (fields_of p t) k))).align
+    let before = fields_layout (map (λ f. layout_of p.structs f.ty) (take k (fields_of p t))) in
+    rounded before.size (layout_of p.structs (field_type (slice_get (fields_of p t) k))).align
 
 -- ---- parts
 
@@ -107,9 +63,9 @@ parts_of_elements parts size (suc n) a = parts a ++ parts_of_elements parts size
 
 -- the parts of fields, behind those that are done, of a struct at address a
 abbrev pub parts_of_fields : (Ty → ℕ → List Part) → (Ty → Layout) → (a : ℕ) → (done : Layout) → List Field → List Part
-parts_of_fields parts layout a done [] = []
-parts_of_fields parts layout a done (f ∷ fs) =
-    parts f.ty (a + rounded done.size (layout f.ty).align) ++ parts_of_fields parts layout a (with_field done (layout f.ty)) fs
+parts_of_fields parts of_type a done [] = []
+parts_of_fields parts of_type a done (f ∷ fs) =
+    parts f.ty (a + rounded done.size (of_type f.ty).align) ++ parts_of_fields parts of_type a (with_field done (of_type f.ty)) fs
 
 -- the parts of a value of a type at an address: itself and, again, its elements and fields; given those of the structs
 abbrev pub parts_of : (ℕ → Layout) → (ℕ → ℕ → List Part) → Ty → ℕ → List Part
@@ -125,7 +81,7 @@ abbrev pub parts_in_struct : List (List Field) → (depth : ℕ) → ℕ → ℕ
 parts_in_struct structs zero k a = []
 parts_in_struct structs (suc depth) k a =
     parts_of_fields (parts_of (struct_at structs depth) (parts_in_struct structs depth)) (type_layout (struct_at structs depth)) a
-    (record { size = 0; align = 1 }) (slice_index_or structs k [])
+    (layout 0 1) (slice_index_or structs k [])
 
 abbrev pub same_int : IntType → IntType → Bool
 same_int I8 I8 = true
