@@ -4,11 +4,11 @@ use Rattle.std.specs.Prelude.{codes}
 use Rattle.std.specs.declared.result.Result.{Result}
 use Rattle.std.specs.declared.result.Result.TheVariants.{Ok, Err}
 use Rattle.std.proofs.lemmas.Bool.Decides.{nat_tests}
-use Rattle.core_meaning.specs.declared.PortWrite.{PortWrite}
+use Rattle.nm_driver.specs.declared.form.Constant.{Constant}
 use Rattle.nm_base.specs.Outside.{appended}
 use Rattle.nm_driver.specs.Content.{IsStop, HasRunText, HasRunCause}
 use Rattle.nm_driver.specs.Form.{HasForm}
-use Rattle.nm_driver.specs.Output.{AreWords, HasCause, HasText, IfMissing, IsDone, IsMissing, IsRefused, IsBadSchedule, IsSource, Told, Wrote, application, source_file}
+use Rattle.nm_driver.specs.Output.{AreWords, HasCause, HasText, IfMissing, IsDone, IsMissing, IsRefused, IsRunText, IsBadSchedule, IsSource, Told, Wrote, application, source_file, wired}
 use Rattle.nm_driver.specs.declared.status.Status.{Status}
 use Rattle.nm_driver.specs.declared.status.Status.TheVariants.{Done, Refused, Usage, Missing, ReadFault, WriteFault, BadSchedule, Limit, TooLarge, NoMemory, BadImage}
 
@@ -50,7 +50,7 @@ module _ (words : List (List ℕ)) (app schedule : List ℕ) (are : AreWords wor
   stops told (BadImage n) text h lacks = absurd h
 
   -- an answer about the schedule, or the end
-  pub runs : (told : Told) (writes : List PortWrite) → IsSource told app writes → (status : Status) (text : List ℕ) → HasRunText schedule writes status text → HasRunCause told schedule status → HasCause told words status
+  pub runs : (told : Told) (writes : List Constant) → IsSource told app writes → (status : Status) (text : List ℕ) → HasRunText schedule (wired app writes) status text → HasRunCause told schedule status → HasCause told words status
   runs told writes source Done text h cause = record { app = app; schedule = schedule; words_are = are; writes = writes; source = source; empty = cause }
   runs told writes source (Missing name) text h cause = record { app = app; schedule = schedule; words_are = are; lacks = cause; first = inr (h.0, (writes, source)) }
   runs told writes source ReadFault text h cause = tt
@@ -63,8 +63,8 @@ module _ (words : List (List ℕ)) (app schedule : List ℕ) (are : AreWords wor
   runs told writes source NoMemory text h cause = absurd h
   runs told writes source (BadImage n) text h cause = absurd h
 
-  pub texts : (told : Option Told) (writes : List PortWrite) → ((files : Told) → told ≡ Some files → IsSource files app writes) → (status : Status) (text : List ℕ) → HasRunText schedule writes status text → HasText told words status text
-  texts told writes source Done text h = record { writes = writes; run = h; source = λ files e. subst (λ a. IsSource files a writes) (sym (ap application are)) (source files e) }
+  pub texts : (told : Option Told) (writes : List Constant) → ((files : Told) → told ≡ Some files → IsSource files app writes) → (status : Status) (text : List ℕ) → HasRunText schedule (wired app writes) status text → HasText told words status text
+  texts told writes source Done text h = record { writes = writes; run = subst (λ a. IsRunText (wired a writes) text) (sym (ap application are)) h; source = λ files e. subst (λ a. IsSource files a writes) (sym (ap application are)) (source files e) }
   texts told writes source (Missing name) text h = h.1 ∙ ap (λ n. codes "missing " ++ (n ++ 10 ∷ [])) (sym h.0)
   texts told writes source ReadFault text h = h
   texts told writes source (BadSchedule n) text h = h

@@ -2,6 +2,7 @@ pub mod Causes
 pub mod Cutting
 pub mod Early
 pub mod Numerals
+pub mod Ports
 pub mod Slots
 pub mod Statements
 pub mod Trace

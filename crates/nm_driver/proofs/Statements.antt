@@ -2,8 +2,11 @@
 use Rattle.std.proofs.Common.{◌≡◌, ℕ, ◌+◌, ◌-◌, ◌*◌, ◌<◌, ◌≤◌, List, [], ◌∷◌, ◌++◌, length, map, take, drop, get_or, arith, refl, sym, ap, ◌∙◌, append_assoc, length-append, length-drop}
 use Rattle.std.specs.List.{flat_map, AllByRecursion}
 use Rattle.std.proofs.lemmas.List.{take-append-drop, drop-drop, take_all, append_cancel_left, append_cancel_right}
-use Rattle.core_meaning.specs.declared.PortWrite.{PortWrite}
-use Rattle.nm_driver.specs.Form.{AreStatements, IsWritten, Written, statement, tail}
+use Rattle.nm_driver.specs.declared.form.Constant.{Constant}
+use Rattle.nesc_core.specs.Plain.{more_stmts}
+use Rattle.nesc_core.specs.View.{stmts}
+use Rattle.core_meaning.specs.BootBody.{write_statement, write_statements}
+use Rattle.nm_driver.specs.Form.{AreStatements, IsWritten, Written, constant_of, statement, tail}
 
 abbrev Tokens : Type 0
 Tokens = List (List ℕ)
@@ -60,7 +63,7 @@ pub none : AreStatements [] []
 none = record { written = []; are_written = tt; spelled = refl; these = refl }
 
 -- a statement in front
-pub more : (w : Written) (tokens : Tokens) (ws : List PortWrite) → IsWritten w → AreStatements tokens ws → AreStatements (statement w ++ tokens) (w.write ∷ ws)
+pub more : (w : Written) (tokens : Tokens) (ws : List Constant) → IsWritten w → AreStatements tokens ws → AreStatements (statement w ++ tokens) (w.write ∷ ws)
 more w tokens ws good h = record {
   written = w ∷ h.written;
   are_written = (good, h.are_written);
@@ -73,10 +76,10 @@ pub record IsMore (tokens : Tokens) : Type 0 where
   pub first : Written
   pub good : IsWritten first
   pub front : take 7 tokens ≡ statement first
-  pub writes : List PortWrite
+  pub writes : List Constant
   pub back : AreStatements (drop 7 tokens) writes
 
-pub goes_on : (tokens : Tokens) (ws : List PortWrite) → 0 < length tokens → AreStatements tokens ws → IsMore tokens
+pub goes_on : (tokens : Tokens) (ws : List Constant) → 0 < length tokens → AreStatements tokens ws → IsMore tokens
 goes_on tokens ws some h = by_written h.written h.are_written h.spelled
   where
     by_written : (written : List Written) → AllByRecursion IsWritten written → tokens ≡ flat_map statement written → IsMore tokens
@@ -90,7 +93,7 @@ goes_on tokens ws some h = by_written h.written h.are_written h.spelled
     }
 
 -- a statement is seven tokens
-pub statement_lengths : (tokens : Tokens) (ws : List PortWrite) → AreStatements tokens ws → length tokens ≡ 7 * length ws
+pub statement_lengths : (tokens : Tokens) (ws : List Constant) → AreStatements tokens ws → length tokens ≡ 7 * length ws
 statement_lengths tokens ws h = ap length h.spelled ∙ by_written h.written ∙ ap (λ l. 7 * length l) (sym h.these)
   where
     by_written : (written : List Written) → length (flat_map statement written) ≡ 7 * length (map (λ w. w.write) written)
@@ -98,9 +101,14 @@ statement_lengths tokens ws h = ap length h.spelled ∙ by_written h.written ∙
     by_written (w ∷ written) = let h = by_written written in omega arith
 
 -- a front that is too short for a statement is empty
-pub too_short : (tokens : Tokens) (ws : List PortWrite) → length tokens < 7 → 0 < length tokens → AreStatements tokens ws → ⊥
+pub too_short : (tokens : Tokens) (ws : List Constant) → length tokens < 7 → 0 < length tokens → AreStatements tokens ws → ⊥
 too_short tokens ws short some h = let n = statement_lengths tokens ws h in omega arith
 
 -- a form has one body
 pub one_body : (front a b : Tokens) → front ++ (a ++ tail) ≡ front ++ (b ++ tail) → a ≡ b
 one_body front a b h = append_cancel_right a b tail (append_cancel_left front (a ++ tail) (b ++ tail) h)
+
+-- the statements of a block that does the writes
+pub all_statements : (ws : List Constant) → stmts (map (λ w. write_statement (constant_of w)) ws) ≡ write_statements (map constant_of ws)
+all_statements [] = refl
+all_statements (w ∷ ws) = ap (more_stmts (write_statement (constant_of w))) (all_statements ws)

@@ -4,9 +4,9 @@ use Rattle.std.specs.List.{AllByRecursion}
 use Rattle.std.specs.Str.Parse.{digits_value}
 use Rattle.std.proofs.lemmas.Bool.{and_parts}
 use Rattle.std.proofs.lemmas.Bool.Decides.{nat_tests}
-use Rattle.core_meaning.specs.declared.PortWrite.{PortWrite}
-use Rattle.core_meaning.specs.ConstantWrites.{IsWrite, IsWritable}
-use Rattle.nm_driver.specs.Form.{AreStatements, IsWritten, Written, is_device_port, is_numeral, number, numeral}
+use Rattle.nm_driver.specs.declared.form.Constant.{Constant}
+use Rattle.core_meaning.specs.ConstantWrites.{IsWritable}
+use Rattle.nm_driver.specs.Form.{AreStatements, IsConstant, IsWritten, Written, is_device_port, is_numeral, number, numeral}
 use Rattle.nm_driver.proofs.Numerals.{test_holds}
 
 numeral_small : (base : ℕ) (ds : List ℕ) (v : ℕ) → numeral base ds ≡ Some v → v < 0x10000
@@ -42,10 +42,10 @@ writable p h =
     let even = a.1 in
     record { low = grind (arith, nat_tests); high = grind (arith, nat_tests); even = grind (arith, nat_tests); no_fault = grind (arith, nat_tests) }
 
-pub good_writes : (tokens : List (List ℕ)) (ws : List PortWrite) → AreStatements tokens ws → AllByRecursion IsWrite ws
-good_writes tokens ws h = subst (AllByRecursion IsWrite) (sym h.these) (each h.written h.are_written)
+pub good_writes : (tokens : List (List ℕ)) (ws : List Constant) → AreStatements tokens ws → AllByRecursion IsConstant ws
+good_writes tokens ws h = subst (AllByRecursion IsConstant) (sym h.these) (each h.written h.are_written)
   where
-    each : (written : List Written) → AllByRecursion IsWritten written → AllByRecursion IsWrite (map (λ w. w.write) written)
+    each : (written : List Written) → AllByRecursion IsWritten written → AllByRecursion IsConstant (map (λ w. w.write) written)
     each [] good = tt
     each (w ∷ written) good =
         let g = good.0 in

@@ -1,6 +1,6 @@
 -- What a file gives, and the answers about it.
 use Rattle.std.specs.Prelude.{◌≡◌, ◌<◌, ℕ, List, [], ◌∷◌, ◌++◌, Some, None, length, codes, decimal}
-use Rattle.core_meaning.specs.declared.PortWrite.{PortWrite}
+use Rattle.nesc_core.specs.Plain.{Program}
 use Rattle.nm_driver.specs.declared.answer.Answer.{Answer}
 use Rattle.nm_driver.specs.declared.top_call.Content.{Content}
 use Rattle.nm_driver.specs.declared.top_call.Content.TheVariants.{Whole, Stops}
@@ -23,10 +23,10 @@ IsStop name ReadFault text = text ≡ codes "read fault" ++ 10 ∷ []
 IsStop name _ text = ⊥
 
 -- an answer about a schedule, or the text of a run
-abbrev pub HasRunText : List ℕ → List PortWrite → Status → List ℕ → Type 0
-HasRunText schedule writes Done text = IsRunText writes text
-HasRunText schedule writes (BadSchedule line) text = text ≡ codes "schedule line " ++ (decimal line ++ 10 ∷ [])
-HasRunText schedule writes status text = IsStop schedule status text
+abbrev pub HasRunText : List ℕ → Program → Status → List ℕ → Type 0
+HasRunText schedule program Done text = IsRunText program text
+HasRunText schedule program (BadSchedule line) text = text ≡ codes "schedule line " ++ (decimal line ++ 10 ∷ [])
+HasRunText schedule program status text = IsStop schedule status text
 
 abbrev pub HasRunCause : Told → List ℕ → Status → Type 0
 HasRunCause told schedule Done = told schedule ≡ Some []

@@ -6,7 +6,10 @@ use Rattle.std.specs.List.{list_all, list_any, flat_map, AllByRecursion}
 use Rattle.std.specs.Cmp.Lexicographic.{pointwise}
 use Rattle.std.specs.Char.{digit_value}
 use Rattle.std.specs.Str.Parse.{digits_value}
+use Rattle.core_meaning.specs.BootBody.{WrittenConstant}
+use Rattle.core_meaning.specs.ConstantWrites.{IsWrite}
 use Rattle.core_meaning.specs.declared.PortWrite.{PortWrite}
+use Rattle.nm_driver.specs.declared.form.Constant.{Constant}
 use Rattle.nm_driver.specs.Tokens.{tokens_of, is_letter, is_word_byte}
 
 -- one digit or more of this base, for a number of 16 bits
@@ -16,10 +19,13 @@ is_numeral base ds = nat_lt 0 (length ds) && list_all (λ d. nat_lt (digit_value
 abbrev pub numeral : ℕ → List ℕ → Option ℕ
 numeral base ds = if is_numeral base ds then Some (digits_value base ds) else None
 
+abbrev pub is_hexadecimal : List ℕ → Bool
+is_hexadecimal token = slice_index token 0 == 48 && slice_index token 1 == 120
+
 -- decimal, which is `0` or has no leading 0, or hexadecimal behind `0x`
 abbrev pub number : List ℕ → Option ℕ
 number token =
-    if slice_index token 0 == 48 && slice_index token 1 == 120 then numeral 16 (drop 2 token)
+    if is_hexadecimal token then numeral 16 (drop 2 token)
     else (if slice_index token 0 == 48 && nat_lt 1 (length token) then None
     else numeral 10 token)
 
@@ -27,7 +33,7 @@ number token =
 pub record Written : Type 0 where
   pub port : List ℕ
   pub value : List ℕ
-  pub write : PortWrite
+  pub write : Constant
 
 -- the port is even, from 0x0120 to 0x015E
 abbrev pub is_device_port : ℕ → Bool
@@ -36,6 +42,7 @@ is_device_port p = nat_lt 0x011F p && nat_lt p 0x0160 && (2 * (p / 2) == p)
 pub record IsWritten (w : Written) : Type 0 where
   pub port : number w.port ≡ Some w.write.port
   pub value : number w.value ≡ Some w.write.value
+  pub kind : w.write.is_decimal ≡ not (is_hexadecimal w.value)
   pub at_device : is_device_port w.write.port ≡ true
 
 abbrev pub statement : Written → List (List ℕ)
@@ -71,16 +78,27 @@ abbrev pub is_name : List ℕ → Bool
 is_name word = is_letter (slice_index word 0) && list_all is_word_byte word && not (list_any (λ k. pointwise nat_eq k word) keywords)
 
 -- these tokens are the statements of these writes
-pub record AreStatements (tokens : List (List ℕ)) (writes : List PortWrite) : Type 0 where
+pub record AreStatements (tokens : List (List ℕ)) (writes : List Constant) : Type 0 where
   pub written : List Written
   pub are_written : AllByRecursion IsWritten written
   pub spelled : tokens ≡ flat_map statement written
   pub these : writes ≡ map (λ w. w.write) written
 
 -- the text of the file of a module APP that makes these writes
-pub record HasForm (app text : List ℕ) (writes : List PortWrite) : Type 0 where
+pub record HasForm (app text : List ℕ) (writes : List Constant) : Type 0 where
   pub name : is_name app ≡ true
   pub body : List (List ℕ)
   pub tokens : tokens_of text ≡ Some (head app ++ (body ++ tail))
   pub statements : AreStatements body writes
   pub few : length writes ≤ 200
+
+-- the same as the wired program has them
+abbrev pub constant_of : Constant → WrittenConstant
+constant_of c = record { port = c.port; value = c.value; is_decimal = c.is_decimal }
+
+-- the same as the image has them
+abbrev pub port_write_of : Constant → PortWrite
+port_write_of c = record { port = c.port; value = c.value }
+
+abbrev pub IsConstant : Constant → Type 0
+IsConstant c = IsWrite (port_write_of c)

@@ -5,3 +5,4 @@ pub mod RunText
 pub mod Output
 pub mod MoteState
 pub mod Content
+pub mod Compiled

@@ -1,5 +1,5 @@
 -- What the top call answers and writes.
-use Rattle.std.specs.Prelude.{◌≡◌, ◌<◌, ◌≤◌, ◌⊎◌, ℕ, ◌+◌, ◌/◌, ◌%◌, List, [], ◌∷◌, ◌++◌, Option, Some, None, length, codes, decimal}
+use Rattle.std.specs.Prelude.{◌≡◌, ◌<◌, ◌≤◌, ◌⊎◌, ℕ, ◌+◌, ◌/◌, ◌%◌, List, [], ◌∷◌, ◌++◌, Option, Some, None, length, map, codes, decimal}
 use Rattle.nm_base.specs.declared.refusal.Left.TheVariants.{Later}
 use Rattle.nm_base.specs.declared.refusal.Refusal.{Refusal}
 use Rattle.nm_base.specs.declared.refusal.Refusal.TheVariants.{LeftOut}
@@ -7,14 +7,16 @@ use Rattle.nm_base.specs.Outside.{appended, AppendsPart}
 use Rattle.nm_base.specs.Words.{left_word, refusal_number, refusal_pos}
 use Rattle.mote_devices.specs.declared.state.BoardState.{BoardState}
 use Rattle.mote_devices.specs.declared.shown.Due.{Due}
-use Rattle.core_meaning.specs.declared.PortWrite.{PortWrite}
-use Rattle.core_meaning.specs.Source.{Source}
-use Rattle.core_meaning.specs.ConstantWrites.{WritesConstants}
+use Rattle.nesc_core.specs.Plain.{Program}
+use Rattle.nesc_core.specs.Weights.{pace_of_program}
+use Rattle.core_meaning.specs.BootBody.{constant_writes_program}
+use Rattle.core_meaning.specs.SourceOf.{source_of}
 use Rattle.msp_isa.specs.Image.{image_map}
 use Rattle.preempt_core.specs.Mote.{mote}
 use Rattle.preempt_core.specs.Allowed.{Allowed}
-use Rattle.nm_driver.specs.Form.{HasForm}
+use Rattle.nm_driver.specs.Form.{HasForm, constant_of}
 use Rattle.nm_driver.specs.RunText.{run_text}
+use Rattle.nm_driver.specs.declared.form.Constant.{Constant}
 use Rattle.nm_driver.specs.declared.status.Status.{Status}
 use Rattle.nm_driver.specs.declared.status.Status.TheVariants.{Done, Refused, Usage, Missing, ReadFault, WriteFault, BadSchedule, Limit, TooLarge, NoMemory, BadImage}
 
@@ -35,7 +37,7 @@ abbrev pub Told : Type 0
 Told = List ℕ → Option (List ℕ)
 
 -- the application's file has the form, with these writes
-pub record IsSource (told : Told) (app : List ℕ) (writes : List PortWrite) : Type 0 where
+pub record IsSource (told : Told) (app : List ℕ) (writes : List Constant) : Type 0 where
   pub text : List ℕ
   pub read : told (source_file app) ≡ Some text
   pub form : HasForm app text writes
@@ -50,7 +52,7 @@ pub record IsDone (told : Told) (words : List (List ℕ)) : Type 0 where
   pub app : List ℕ
   pub schedule : List ℕ
   pub words_are : AreWords words app schedule
-  pub writes : List PortWrite
+  pub writes : List Constant
   pub source : IsSource told app writes
   pub empty : told schedule ≡ Some []
 
@@ -60,7 +62,7 @@ pub record IsMissing (told : Told) (words : List (List ℕ)) (name : List ℕ) :
   pub schedule : List ℕ
   pub words_are : AreWords words app schedule
   pub lacks : told name ≡ None
-  pub first : (name ≡ source_file app) ⊎ ((name ≡ schedule) × ((writes : List PortWrite) × IsSource told app writes))
+  pub first : (name ≡ source_file app) ⊎ ((name ≡ schedule) × ((writes : List Constant) × IsSource told app writes))
 
 pub record IsRefused (told : Told) (words : List (List ℕ)) (refusal : Refusal) : Type 0 where
   pub app : List ℕ
@@ -68,14 +70,14 @@ pub record IsRefused (told : Told) (words : List (List ℕ)) (refusal : Refusal)
   pub words_are : AreWords words app schedule
   pub text : List ℕ
   pub read : told (source_file app) ≡ Some text
-  pub formless : (writes : List PortWrite) → HasForm app text writes → ⊥
+  pub formless : (writes : List Constant) → HasForm app text writes → ⊥
   pub this : refusal ≡ later
 
 pub record IsBadSchedule (told : Told) (words : List (List ℕ)) (line : ℕ) : Type 0 where
   pub app : List ℕ
   pub schedule : List ℕ
   pub words_are : AreWords words app schedule
-  pub writes : List PortWrite
+  pub writes : List Constant
   pub source : IsSource told app writes
   pub text : List ℕ
   pub read : told schedule ≡ Some text
@@ -137,22 +139,26 @@ line_of words ReadFault = codes "read fault" ++ 10 ∷ []
 line_of words (BadSchedule line) = codes "schedule line " ++ (decimal line ++ 10 ∷ [])
 line_of words _ = []
 
+-- the wired program of a module of this name that makes these writes
+abbrev pub wired : List ℕ → List Constant → Program
+wired app writes = constant_writes_program app (map constant_of writes)
+
 -- The text is that of an image and of its own run on the empty board, with no rows and 10,000 slots
-pub record IsRunText (writes : List PortWrite) (text : List ℕ) : Type 0 where
+pub record IsRunText (program : Program) (text : List ℕ) : Type 0 where
   pub code : List ℕ
   pub vectors : List ℕ
   pub ram : ℕ
   pub stack : ℕ
   pub printed : text ≡ run_text code vectors ram stack 10000
-  -- the image does what the source does, whatever comes in whichever slot ..
-  pub allowed : (P : Source) (b : BoardState) (rows : List Due) (pace n : ℕ) → WritesConstants P writes → 3 ≤ pace → Allowed P pace b (mote (image_map code vectors) b rows) n
+  -- a mote with the image does what the program allows, on every board, whatever comes in whichever slot ..
+  pub allowed : (b : BoardState) (rows : List Due) (n : ℕ) → Allowed (source_of program) (pace_of_program program) b (mote (image_map code vectors) b rows) n
   -- .. within its stack
   pub bounded : (b : BoardState) (rows : List Due) (n : ℕ) → 0x3900 ≤ (mote (image_map code vectors) b rows n).least + stack
 
 -- the text is that of a run, of the application's file where that is told
 pub record IsOutput (told : Option Told) (words : List (List ℕ)) (text : List ℕ) : Type 0 where
-  pub writes : List PortWrite
-  pub run : IsRunText writes text
+  pub writes : List Constant
+  pub run : IsRunText (wired (application words) writes) text
   pub source : (files : Told) → told ≡ Some files → IsSource files (application words) writes
 
 -- the text that goes with an answer

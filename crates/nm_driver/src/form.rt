@@ -4,14 +4,21 @@ ghost use Rattle.std.specs.Prelude.{◌≡◌, ◌↔◌, ◌++◌, ℕ, List, l
 ghost use Rattle.std.specs.List.{list_all, list_any, flat_map, AllByRecursion};
 ghost use Rattle.std.specs.Cmp.Lexicographic.{pointwise};
 ghost use Rattle.nm_driver.specs.Tokens.{is_letter, is_word_byte};
-ghost use Rattle.core_meaning.specs.declared.PortWrite.{PortWrite};
+ghost use Rattle.nm_driver.specs.declared.form.Constant.{Constant};
 ghost use Rattle.nm_driver.specs.Form.{AreStatements, HasForm, IsWritten, Written, head, is_device_port, is_name, keywords, statement, tail};
 
-use crate::number::number;
+use crate::number::{is_hexadecimal, number};
 use crate::tokens::{is_letter, is_word_byte, tokens_of};
-use core_meaning::PortWrite;
 use nm_base::{Name, NoMemory};
 use std::alloc::Global;
+
+/// A write of a constant to a port. A literal that is not decimal is hexadecimal.
+#[derive(Clone, Copy, Debug, PartialEq, Eq)]
+pub(crate) struct Constant {
+    pub port: u16,
+    pub value: u16,
+    pub is_decimal: bool,
+}
 
 const MOST_WRITES: usize = 200;
 
@@ -178,7 +185,7 @@ fn is_device_port(port: u16) -> bool
 }
 
 // The write of the seven tokens of a statement.
-fn port_write(tokens: &[Name]) -> Option<PortWrite>
+fn port_write(tokens: &[Name]) -> Option<Constant>
     requires { length tokens.now ≡ 7 }
     ensures { MatchOption result ((w : Written) → IsWritten w → tokens.now ≡ statement w → ⊥) (λ p. (w : Written) × IsWritten w × (tokens.now ≡ statement w) × (w.write ≡ p)) }
 {
@@ -188,20 +195,24 @@ fn port_write(tokens: &[Name]) -> Option<PortWrite>
     {
         return None;
     }
-    let (Some(port), Some(value)) = (number(tokens[2].as_bytes()), number(tokens[4].as_bytes()))
-    else {
+    let literal = tokens[4].as_bytes();
+    let (Some(port), Some(value)) = (number(tokens[2].as_bytes()), number(literal)) else {
         return None;
     };
     if is_device_port(port) {
-        Some(PortWrite { port, value })
+        Some(Constant {
+            port,
+            value,
+            is_decimal: !is_hexadecimal(literal),
+        })
     } else {
         None
     }
 }
 
 // The writes of a list of statements; None exactly where the tokens are none.
-fn writes_in(alloc: Global, body: &[Name]) -> Result<Option<Vec<PortWrite>>, NoMemory>
-    ensures { IfOk result (λ o. MatchOption o ((ws : List PortWrite) → AreStatements body.now ws → ⊥) (λ v. AreStatements body.now v.items)) }
+fn writes_in(alloc: Global, body: &[Name]) -> Result<Option<Vec<Constant>>, NoMemory>
+    ensures { IfOk result (λ o. MatchOption o ((ws : List Constant) → AreStatements body.now ws → ⊥) (λ v. AreStatements body.now v.items)) }
 {
     let mut writes = Vec::new(alloc);
     let mut rest = body;
@@ -225,8 +236,8 @@ pub(crate) fn writes_of(
     alloc: Global,
     app: &str,
     text: &[u8],
-) -> Result<Option<Vec<PortWrite>>, NoMemory>
-    ensures { IfOk result (λ o. MatchOption o ((ws : List PortWrite) → HasForm app.now text.now ws → ⊥) (λ v. HasForm app.now text.now v.items)) }
+) -> Result<Option<Vec<Constant>>, NoMemory>
+    ensures { IfOk result (λ o. MatchOption o ((ws : List Constant) → HasForm app.now text.now ws → ⊥) (λ v. HasForm app.now text.now v.items)) }
 {
     if !is_name(app) {
         return Ok(None);

@@ -2,6 +2,7 @@
 #![tactic(auto)]
 
 mod answer;
+mod compile;
 mod form;
 mod mote;
 mod number;
@@ -9,6 +10,7 @@ mod output;
 mod status;
 mod tokens;
 mod top_call;
+mod wired;
 
 pub use status::Status;
 pub use top_call::tool;

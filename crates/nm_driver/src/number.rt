@@ -1,7 +1,7 @@
 //! Numbers of 16 bits.
 
 ghost use Rattle.std.specs.Prelude.{◌≡◌, ◌≤◌};
-ghost use Rattle.nm_driver.specs.Form.{number, numeral};
+ghost use Rattle.nm_driver.specs.Form.{is_hexadecimal, number, numeral};
 
 use std::str;
 
@@ -19,16 +19,23 @@ fn numeral(digits: &[u8], radix: u32) -> Option<u16>
     }
 }
 
+/// Whether a token begins as a hexadecimal number.
+pub(crate) fn is_hexadecimal(token: &[u8]) -> bool
+    ensures { result ≡ is_hexadecimal token.now }
+{
+    token.len() > 1 && token[0] == b'0' && token[1] == b'x'
+}
+
 /// The number that a token spells: decimal, `0` or without a leading 0, or hexadecimal behind `0x`; None where it
 /// spells none of 16 bits.
 pub(crate) fn number(token: &[u8]) -> Option<u16>
     ensures { result ≡ number token.now }
 {
-    if token.len() > 1 && token[0] == b'0' {
-        if token[1] == b'x' {
-            return numeral(&token[2..], 16);
-        }
-        return None;
+    if is_hexadecimal(token) {
+        numeral(&token[2..], 16)
+    } else if token.len() > 1 && token[0] == b'0' {
+        None
+    } else {
+        numeral(token, 10)
     }
-    numeral(token, 10)
 }

@@ -2,16 +2,16 @@
 
 ghost use Rattle.std.specs.Prelude.{◌≡◌, ℕ, ◌<◌, ◌≤◌, ◌⊎◌, ◌++◌, ◌∷◌, List, [], Option, Some, None, map, codes, string_bytes, IfOk, IfErr, IsTrue, ◌↔◌, length};
 ghost use Rattle.nm_base.specs.Outside.{Rose};
-ghost use Rattle.std.specs.List.{AllByRecursion};
-ghost use Rattle.core_meaning.specs.ConstantWrites.{IsWrite};
+ghost use Rattle.nesc_core.specs.View.{program_of};
+ghost use Rattle.nm_driver.specs.Compiled.{IsCompiled};
 ghost use Rattle.nm_driver.specs.Content.{IfWhole, IfStops, IsStop, HasRunText, HasRunCause};
 ghost use Rattle.nm_driver.specs.Output.{AreRunWords, HasCause, HasText, IfMissing, IsDone, IsUsageOrLess, Told, Wrote, application, line_of, source_file};
 
 use crate::answer::{Answer, missing, read_fault, refused_later, schedule_line, usage};
+use crate::compile::{Compiled, compile};
 use crate::form::writes_of;
 use crate::output::run_output;
 use crate::status::Status;
-use core_meaning::PortWrite;
 use nm_base::{Files, Found, Name, NoMemory, Sink, write_all};
 use std::alloc::Global;
 
@@ -69,22 +69,22 @@ fn prepare<F: Files>(alloc: Global, words: &[String], files: &mut F) -> Result<A
     let Some(writes) = writes_of(alloc, app, &source)? else {
         return refused_later(alloc, file.as_str());
     };
-    run_on(alloc, words[2].as_str(), &writes, files)
+    let compiled = compile(alloc, app, &writes)?;
+    run_on(alloc, words[2].as_str(), &compiled, files)
 }
 
-// The answer for an application that makes these writes, by its schedule, which has to be empty.
+// The answer for a compiled application, by its schedule, which has to be empty.
 fn run_on<F: Files>(
     alloc: Global,
     schedule: &str,
-    writes: &[PortWrite],
+    compiled: &Compiled,
     files: &mut F,
 ) -> Result<Answer, NoMemory>
-    requires few { length writes.now ≤ 200 }
-    requires good { AllByRecursion IsWrite writes.now }
+    requires { IsCompiled compiled.now }
     ensures read_fault { IfOk result (λ a. a.status ≡ Status.ReadFault → Rose (F.faults files.old) (F.faults files.new)) }
     ensures missing { IfOk result (λ a. IfMissing a.status (λ name. Rose (F.misses files.old name) (F.misses files.new name))) }
     ensures kept { F.faults files.old ≤ F.faults files.new }
-    ensures text { IfOk result (λ a. HasRunText schedule.now writes.now a.status (string_bytes a.text)) }
+    ensures text { IfOk result (λ a. HasRunText schedule.now (program_of compiled.now.program) a.status (string_bytes a.text)) }
     ensures cause { IfOk result (λ a. (told : Told) → F.texts files.old ≡ Some told → HasRunCause told schedule.now a.status) }
 {
     let rows = match read_file(alloc, files, schedule)? {
@@ -96,7 +96,7 @@ fn run_on<F: Files>(
     }
     Ok(Answer {
         status: Status::Done,
-        text: run_output(alloc, writes)?,
+        text: run_output(alloc, &compiled.image)?,
     })
 }
 

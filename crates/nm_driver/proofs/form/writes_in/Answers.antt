@@ -1,7 +1,7 @@
 use Rattle.std.proofs.Common.{◌≡◌, ℕ, suc, ◌==◌, true, List, [], ◌∷◌, ◌++◌, length, take, drop, arith, refl, sym, ap, subst, ◌∙◌, append_assoc, append-nil}
 use Rattle.std.proofs.lemmas.Bool.Decides.{nat_tests}
 use Rattle.std.proofs.lemmas.List.{take-append-drop}
-use Rattle.core_meaning.specs.declared.PortWrite.{PortWrite}
+use Rattle.nm_driver.specs.declared.form.Constant.{Constant}
 use Rattle.nm_driver.specs.Form.{AreStatements, IsWritten, Written, statement}
 use Rattle.nm_driver.proofs.Statements.{none, more, goes_on, too_short}
 use Rattle.nm_driver.proofs.form.writes_in.Goals as goal
@@ -13,7 +13,7 @@ returns-in_default c = λ ws h.
     c.in_default.ensures next.first next.good (c.split_at.ensures.front ∙ next.front)
 
 -- one statement more in front of the others
-in_front : (rest front others : List (List ℕ)) (w : Written) (us : List PortWrite) → front ≡ take 7 rest → others ≡ drop 7 rest → IsWritten w → front ≡ statement w → AreStatements others us → AreStatements rest (w.write ∷ us)
+in_front : (rest front others : List (List ℕ)) (w : Written) (us : List Constant) → front ≡ take 7 rest → others ≡ drop 7 rest → IsWritten w → front ≡ statement w → AreStatements others us → AreStatements rest (w.write ∷ us)
 in_front rest front others w us f o good e h =
     let whole : statement w ++ others ≡ rest = ap (λ t. t ++ others) (sym e ∙ f) ∙ ap (λ t. take 7 rest ++ t) o ∙ take-append-drop 7 rest in
     subst (λ t. AreStatements t (w.write ∷ us)) whole (more w others us good h)

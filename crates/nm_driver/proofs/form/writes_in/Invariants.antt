@@ -1,13 +1,13 @@
 use Rattle.std.proofs.Common.{◌++◌, List, length}
-use Rattle.core_meaning.specs.declared.PortWrite.{PortWrite}
+use Rattle.nm_driver.specs.declared.form.Constant.{Constant}
 use Rattle.nm_driver.specs.Form.{AreStatements}
 use Rattle.nm_driver.proofs.form.writes_in.Given as goal
 
 -- statements of the rest go on to statements of the whole, and the other way round
 abbrev pub invariant-loop-rest : goal.invariant-loop-rest
 invariant-loop-rest l = record {
-  so_far : (ws : List PortWrite) → AreStatements l.rest ws → AreStatements l.body (l.writes.items ++ ws);
-  all : (ws : List PortWrite) → AreStatements l.body ws → (us : List PortWrite) × AreStatements l.rest us;
+  so_far : (ws : List Constant) → AreStatements l.rest ws → AreStatements l.body (l.writes.items ++ ws);
+  all : (ws : List Constant) → AreStatements l.body ws → (us : List Constant) × AreStatements l.rest us;
 }
 
 abbrev pub decreases-loop-rest : goal.decreases-loop-rest

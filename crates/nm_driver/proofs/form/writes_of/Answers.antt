@@ -1,14 +1,14 @@
 use Rattle.std.proofs.Common.{◌≡◌, ℕ, List, ◌++◌, length, Option, Some, None, IfOk, MatchOption, arith, sym, ap, subst, ◌∙◌}
 use Rattle.std.specs.declared.result.Result.{Result}
 use Rattle.std.specs.declared.result.Result.TheVariants.{Ok, Err}
-use Rattle.core_meaning.specs.declared.PortWrite.{PortWrite}
+use Rattle.nm_driver.specs.declared.form.Constant.{Constant}
 use Rattle.nm_driver.specs.Tokens.{tokens_of}
 use Rattle.nm_driver.specs.Form.{AreStatements, HasForm, head, tail}
 use Rattle.nm_driver.proofs.Statements.{one_body, statement_lengths}
 use Rattle.nm_driver.proofs.form.writes_of.Goals as goal
 
 -- the tokens of a text that has the form
-form_tokens : (app text : List ℕ) (tokens : List (List ℕ)) (ws : List PortWrite) → tokens_of text ≡ Some tokens → (h : HasForm app text ws) → tokens ≡ head app ++ (h.body ++ tail)
+form_tokens : (app text : List ℕ) (tokens : List (List ℕ)) (ws : List Constant) → tokens_of text ≡ Some tokens → (h : HasForm app text ws) → tokens ≡ head app ++ (h.body ++ tail)
 form_tokens app text tokens ws e h = let k = sym e ∙ h.tokens in cc
 
 -- what an answer says, by its case

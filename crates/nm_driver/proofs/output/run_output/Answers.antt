@@ -6,18 +6,10 @@ use Rattle.nm_driver.proofs.output.run_output.Goals as goal
 
 pub returns : goal.returns
 returns c =
-    let image = c.in_ok-image.image in
+    let image = c.args.image.now in
     let trace = trace_text (image_map image.code.items image.vectors) 10000 in
     let lines = image_text image.code.items image.vectors in
-    record {
-      code = image.code.items;
-      vectors = image.vectors;
-      ram = image.ram;
-      stack = image.stack;
-      printed = c.in_ok-push_trace.ensures
-          ∙ ap (λ l. l ++ trace) c.in_ok-push_str.ensures.bytes
-          ∙ ap (λ l. l ++ (codes "trace" ++ 10 ∷ []) ++ trace) c.in_ok-push_image.ensures
-          ∙ ap (λ l. l ++ lines ++ (codes "trace" ++ 10 ∷ []) ++ trace) c.in_ok-text.ensures.ok;
-      allowed = c.in_ok-image.ensures.allowed;
-      bounded = c.in_ok-image.ensures.stack;
-    }
+    c.in_ok-push_trace.ensures
+    ∙ ap (λ l. l ++ trace) c.in_ok-push_str.ensures.bytes
+    ∙ ap (λ l. l ++ (codes "trace" ++ 10 ∷ []) ++ trace) c.in_ok-push_image.ensures
+    ∙ ap (λ l. l ++ lines ++ (codes "trace" ++ 10 ∷ []) ++ trace) c.in_ok-text.ensures.ok

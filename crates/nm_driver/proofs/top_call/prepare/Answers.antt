@@ -1,9 +1,9 @@
-use Rattle.std.proofs.Common.{◌≡◌, true, false, Some, None, map, string_bytes, refl, sym, ap, subst, ◌∙◌}
+use Rattle.std.proofs.Common.{◌≡◌, ◌≤◌, length, true, false, Some, None, map, string_bytes, refl, sym, ap, subst, ◌∙◌}
 use Rattle.std.specs.Prelude.{codes}
 use Rattle.std.specs.List.{AllByRecursion}
-use Rattle.core_meaning.specs.ConstantWrites.{IsWrite}
-use Rattle.nm_driver.specs.Form.{HasForm}
-use Rattle.nm_driver.specs.Output.{HasCause, IfMissing, Told, source_file}
+use Rattle.nesc_core.specs.View.{program_of}
+use Rattle.nm_driver.specs.Form.{HasForm, IsConstant}
+use Rattle.nm_driver.specs.Output.{HasCause, IfMissing, Told, source_file, wired}
 use Rattle.nm_driver.specs.declared.status.Status.{Status}
 use Rattle.nm_driver.specs.declared.status.Status.TheVariants.{Done, Refused, Usage, Missing, ReadFault, WriteFault, BadSchedule, Limit, TooLarge, NoMemory, BadImage}
 use Rattle.nm_driver.proofs.Causes.{second, third, stops, runs, texts, if_ok, if_ok_two}
@@ -59,10 +59,15 @@ returns-in_default-clause-cause g c =
       this = refl;
     })) c.refused_later.ensures
 
-pub run_on-requires-clause-good : goal.run_on-requires-clause-good
-run_on-requires-clause-good g c =
+pub compile-requires-clause-good : goal.compile-requires-clause-good
+compile-requires-clause-good g c =
     let form = rw c.in-Some.is at c.in_ok-writes.ensures in
-    subst (AllByRecursion IsWrite) (sym c.deref-2.ensures.value) (good_writes form.body c.in-Some.writes.items form.statements)
+    subst (AllByRecursion IsConstant) (sym c.deref-2.ensures.value) (good_writes form.body c.in-Some.writes.items form.statements)
+
+pub compile-requires-clause-few : goal.compile-requires-clause-few
+compile-requires-clause-few g c =
+    let form = rw c.in-Some.is at c.in_ok-writes.ensures in
+    subst (λ l. length l ≤ 200) (sym c.deref-2.ensures.value) form.few
 
 pub returns-clause-cause : goal.returns-clause-cause
 returns-clause-cause g c =
@@ -74,7 +79,8 @@ returns-clause-cause g c =
     let read = rw c.in-Whole.is at c.in_ok-source.ensures.whole in
     let form = rw c.in-Some.is at c.in_ok-writes.ensures in
     let writes = c.in-Some.writes.items in
-    let text = rw schedule at (rw c.deref-2.ensures.value at c.run_on.ensures.text) in
+    let program : program_of c.in_ok-compiled.compiled.program ≡ wired are.0 writes = c.in_ok-compiled.ensures.program ∙ ap (λ l. wired c.as_str-app.result.now l) c.deref-2.ensures.value ∙ ap (λ n. wired n writes) app in
+    let text = rw schedule at (rw program at c.run_on.ensures.text) in
     let cause = rw schedule at c.run_on.ensures.cause in
     if_ok_two c.run_on.result
     (λ a t k told e. runs words are.0 are.1 are.2 told writes (record {
@@ -94,7 +100,8 @@ returns-clause-text g c =
     let read = rw c.in-Whole.is at c.in_ok-source.ensures.whole in
     let form = rw c.in-Some.is at c.in_ok-writes.ensures in
     let writes = c.in-Some.writes.items in
-    let text = rw schedule at (rw c.deref-2.ensures.value at c.run_on.ensures.text) in
+    let program : program_of c.in_ok-compiled.compiled.program ≡ wired are.0 writes = c.in_ok-compiled.ensures.program ∙ ap (λ l. wired c.as_str-app.result.now l) c.deref-2.ensures.value ∙ ap (λ n. wired n writes) app in
+    let text = rw schedule at (rw program at c.run_on.ensures.text) in
     if_ok c.run_on.result
     (λ a t. texts words are.0 are.1 are.2 (g.F.Files.texts c.args.files.now) writes (λ told e. record {
       text = c.in-Whole.source.items;
