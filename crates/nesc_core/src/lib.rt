@@ -5,6 +5,8 @@ mod layout;
 mod node_count;
 mod rows;
 mod sizes;
+#[cfg(test)]
+mod tests;
 mod tree;
 
 pub use layout::Layout;
