@@ -1,11 +1,11 @@
 -- Where the parts of objects lie, to which a pointer may point (C99, 6.2.6.1 and 6.7.2.1; which ones are checked is own).
-use Rattle.std.specs.Prelude.{ℕ, zero, suc, ◌+◌, ◌==◌, Bool, true, false, ◌&&◌, if◌then◌else◌, List, [], ◌∷◌, ◌++◌, length, map, slice_index_or}
+use Rattle.std.specs.Prelude.{ℕ, zero, suc, ◌+◌, ◌*◌, ◌≤◌, ◌==◌, Bool, true, false, ◌&&◌, if◌then◌else◌, List, [], ◌∷◌, ◌++◌, length, map, fold, slice_index_or}
 use Rattle.std.specs.List.{filter, flat_map}
 use Rattle.nm_base.specs.declared.int_type.IntType.{IntType}
 use Rattle.nm_base.specs.declared.int_type.IntType.TheVariants.{I8, U8, I16, U16, I32, U32}
 use Rattle.nesc_core.specs.declared.layout.Layout.{Layout}
 use Rattle.nesc_core.specs.Plain.{Ty, void, int, pointer, array, struct, Field, Object, Program}
-use Rattle.nesc_core.specs.Size.{layout, rounded, with_field, type_layout, struct_at, layout_of}
+use Rattle.nesc_core.specs.Size.{layout, rounded, with_field, type_layout, struct_at, layout_of, IsSized}
 
 pub record Part : Type 0 where
   pub address : ℕ
@@ -55,32 +55,52 @@ parts_in_struct structs (suc depth) k a =
     parts_of_fields (parts_of (struct_at structs depth) (parts_in_struct structs depth)) (type_layout (struct_at structs depth)) a
     (layout 0 1) (slice_index_or structs k [])
 
+abbrev pub parts_at : List (List Field) → Ty → (address : ℕ) → List Part
+parts_at structs t a = parts_of (struct_at structs (length structs)) (parts_in_struct structs (length structs)) t a
+
 abbrev pub parts_of_object : List (List Field) → Object → List Part
-parts_of_object structs o = parts_of (struct_at structs (length structs)) (parts_in_struct structs (length structs)) o.ty o.addr
+parts_of_object structs o = parts_at structs o.ty o.addr
 
 -- the parts of the objects whose address is taken
 abbrev pub taken_parts : Program → List Part
 taken_parts p = flat_map (parts_of_object p.structs) (filter (λ o. o.taken) p.objects)
 
 -- the addresses of those of type t
+abbrev pub addresses : Ty → List Part → List ℕ
+addresses t xs = map (λ x. x.address) (filter (λ x. same_type x.ty t) xs)
+
 abbrev pub parts : Program → Ty → List ℕ
-parts p t = map (λ x. x.address) (filter (λ x. same_type x.ty t) (taken_parts p))
+parts p t = addresses t (taken_parts p)
 
 -- adjacent parts: the address of the first, and how many they are
 pub record Run : Type 0 where
   pub first : ℕ
   pub count : ℕ
 
--- one more part in front
-abbrev pub with_part : (size address : ℕ) → List Run → List Run
-with_part size a [] = record { first = a; count = 1 } ∷ []
-with_part size a (r ∷ rs) =
-    if a + size == r.first then record { first = a; count = r.count + 1 } ∷ rs else record { first = a; count = 1 } ∷ r ∷ rs
+abbrev pub one_part : (address : ℕ) → Run
+one_part a = record { first = a; count = 1 }
 
--- the runs of parts of this size, whose addresses rise
+-- the last run with one more part, which is adjacent or begins a run
+abbrev pub extended : (size : ℕ) → Run → (address : ℕ) → List Run
+extended size r a =
+    if r.first + r.count * size == a then record { first = r.first; count = r.count + 1 } ∷ [] else r ∷ one_part a ∷ []
+
+abbrev pub with_part : (size : ℕ) → List Run → (address : ℕ) → List Run
+with_part size [] a = one_part a ∷ []
+with_part size (r ∷ []) a = extended size r a
+with_part size (r ∷ s ∷ rs) a = r ∷ with_part size (s ∷ rs) a
+
+-- the runs of parts of this size
 abbrev pub runs : (size : ℕ) → List ℕ → List Run
-runs size [] = []
-runs size (a ∷ rest) = with_part size a (runs size rest)
+runs size xs = fold (with_part size) [] xs
 
 abbrev pub runs_of : Program → Ty → List Run
 runs_of p t = runs (layout_of p.structs t).size (parts p t)
+
+abbrev pub run_of : ℕ × ℕ → Run
+run_of r = record { first = r.0; count = r.1 }
+
+-- sized, and where a word can name it
+pub record LiesWell (structs : List (List Field)) (o : Object) : Type 0 where
+  pub sized : IsSized structs o.ty
+  pub inside : o.addr + (layout_of structs o.ty).size ≤ 65535

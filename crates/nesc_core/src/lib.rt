@@ -3,6 +3,7 @@
 
 mod layout;
 mod node_count;
+mod ranges;
 mod rows;
 mod sizes;
 #[cfg(test)]
