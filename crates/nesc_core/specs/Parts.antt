@@ -11,6 +11,9 @@ pub record Part : Type 0 where
   pub address : ℕ
   pub ty : Ty
 
+abbrev pub part_at : ℕ → Ty → Part
+part_at a t = record { address = a; ty = t }
+
 abbrev pub same_int : IntType → IntType → Bool
 same_int I8 I8 = true
 same_int U8 U8 = true
@@ -41,12 +44,12 @@ parts_of_fields parts lies a done (f ∷ fs) =
 
 -- the parts of a value of a type at an address: itself and, again, its elements and fields; given those of the structs
 abbrev pub parts_of : (ℕ → Layout) → (ℕ → ℕ → List Part) → Ty → ℕ → List Part
-parts_of of_struct in_struct void = λ a. record { address = a; ty = void } ∷ []
-parts_of of_struct in_struct (int t) = λ a. record { address = a; ty = int t } ∷ []
-parts_of of_struct in_struct (pointer t) = λ a. record { address = a; ty = pointer t } ∷ []
+parts_of of_struct in_struct void = λ a. part_at a void ∷ []
+parts_of of_struct in_struct (int t) = λ a. part_at a (int t) ∷ []
+parts_of of_struct in_struct (pointer t) = λ a. part_at a (pointer t) ∷ []
 parts_of of_struct in_struct (array t n) = λ a.
-    record { address = a; ty = array t n } ∷ parts_of_elements (parts_of of_struct in_struct t) (type_layout of_struct t).size n a
-parts_of of_struct in_struct (struct k) = λ a. record { address = a; ty = struct k } ∷ in_struct k a
+    part_at a (array t n) ∷ parts_of_elements (parts_of of_struct in_struct t) (type_layout of_struct t).size n a
+parts_of of_struct in_struct (struct k) = λ a. part_at a (struct k) ∷ in_struct k a
 
 -- the parts of the fields of struct k, where structs stand at most `depth` deep in one another
 abbrev pub parts_in_struct : List (List Field) → (depth : ℕ) → (k a : ℕ) → List Part
@@ -58,12 +61,23 @@ parts_in_struct structs (suc depth) k a =
 abbrev pub parts_at : List (List Field) → Ty → (address : ℕ) → List Part
 parts_at structs t a = parts_of (struct_at structs (length structs)) (parts_in_struct structs (length structs)) t a
 
+-- those but for itself
+abbrev pub inner_parts : List (List Field) → Ty → (address : ℕ) → List Part
+inner_parts structs void a = []
+inner_parts structs (int t) a = []
+inner_parts structs (pointer t) a = []
+inner_parts structs (array t n) a = parts_of_elements (parts_at structs t) (layout_of structs t).size n a
+inner_parts structs (struct k) a = parts_in_struct structs (length structs) k a
+
 abbrev pub parts_of_object : List (List Field) → Object → List Part
 parts_of_object structs o = parts_at structs o.ty o.addr
 
--- the parts of the objects whose address is taken
+-- the parts of those objects whose address is taken
+abbrev pub taken_in : List (List Field) → List Object → List Part
+taken_in structs os = flat_map (parts_of_object structs) (filter (λ o. o.taken) os)
+
 abbrev pub taken_parts : Program → List Part
-taken_parts p = flat_map (parts_of_object p.structs) (filter (λ o. o.taken) p.objects)
+taken_parts p = taken_in p.structs p.objects
 
 -- the addresses of those of type t
 abbrev pub addresses : Ty → List Part → List ℕ
@@ -93,6 +107,10 @@ with_part size (r ∷ s ∷ rs) a = r ∷ with_part size (s ∷ rs) a
 -- the runs of parts of this size
 abbrev pub runs : (size : ℕ) → List ℕ → List Run
 runs size xs = fold (with_part size) [] xs
+
+-- the runs so far, and those of the type's parts in the list
+abbrev pub with_parts : (size : ℕ) → Ty → List Run → List Part → List Run
+with_parts size t so_far xs = fold (with_part size) so_far (addresses t xs)
 
 abbrev pub runs_of : Program → Ty → List Run
 runs_of p t = runs (layout_of p.structs t).size (parts p t)

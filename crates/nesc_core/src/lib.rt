@@ -3,8 +3,8 @@
 
 mod layout;
 mod node_count;
-mod ranges;
 mod rows;
+mod runs;
 mod sizes;
 #[cfg(test)]
 mod tests;
@@ -13,6 +13,7 @@ mod tree;
 pub use layout::Layout;
 pub use node_count::nodes;
 pub use rows::worked_rows;
+pub use runs::ranges;
 pub use sizes::size;
 pub use tree::{
     BinOp, Body, CoreExpr, CoreStmt, CoreType, Field, Object, Place, Program, Structs, UnOp,
