@@ -109,8 +109,8 @@ abbrev pub runs : (size : ℕ) → List ℕ → List Run
 runs size xs = fold (with_part size) [] xs
 
 -- the runs so far, and those of the type's parts in the list
-abbrev pub with_parts : (size : ℕ) → Ty → List Run → List Part → List Run
-with_parts size t so_far xs = fold (with_part size) so_far (addresses t xs)
+abbrev pub with_parts : List (List Field) → Ty → List Run → List Part → List Run
+with_parts structs t so_far xs = fold (with_part (layout_of structs t).size) so_far (addresses t xs)
 
 abbrev pub runs_of : Program → Ty → List Run
 runs_of p t = runs (layout_of p.structs t).size (parts p t)

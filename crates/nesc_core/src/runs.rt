@@ -38,7 +38,7 @@ fn push_object(
     requires wanted { IsSized (structs_of s.now) (type_of wanted.now) }
     requires some { 0 < (layout_of (structs_of s.now) (type_of wanted.now)).size }
     requires lies { LiesWell (structs_of s.now) (object_of o.now) }
-    ensures { IfOk result (λ _. map run_of runs.new.items ≡ with_parts (layout_of (structs_of s.now) (type_of wanted.now)).size (type_of wanted.now) (map run_of runs.old.items) (taken_in (structs_of s.now) (object_of o.now ∷ []))) }
+    ensures { IfOk result (λ _. map run_of runs.new.items ≡ with_parts (structs_of s.now) (type_of wanted.now) (map run_of runs.old.items) (taken_in (structs_of s.now) (object_of o.now ∷ []))) }
 {
     if o.taken {
         push_parts(s, wanted, runs, &o.ty, u32::from(o.addr))
@@ -113,7 +113,7 @@ fn push_same(
     requires wanted { IsSized (structs_of s.now) (type_of wanted.now) }
     requires some { 0 < (layout_of (structs_of s.now) (type_of wanted.now)).size }
     requires inside { address + (layout_of (structs_of s.now) (type_of t.now)).size ≤ 65535 }
-    ensures { IfOk result (λ _. map run_of runs.new.items ≡ with_parts (layout_of (structs_of s.now) (type_of wanted.now)).size (type_of wanted.now) (map run_of runs.old.items) (part_at address (type_of t.now) ∷ [])) }
+    ensures { IfOk result (λ _. map run_of runs.new.items ≡ with_parts (structs_of s.now) (type_of wanted.now) (map run_of runs.old.items) (part_at address (type_of t.now) ∷ [])) }
 {
     if same_type_as(t, wanted) {
         push_part(runs, type_layout(s, wanted).size, address)
@@ -135,7 +135,7 @@ fn push_parts(
     requires some { 0 < (layout_of (structs_of s.now) (type_of wanted.now)).size }
     requires sized { IsSized (structs_of s.now) (type_of t.now) }
     requires inside { address + (layout_of (structs_of s.now) (type_of t.now)).size ≤ 65535 }
-    ensures { IfOk result (λ _. map run_of runs.new.items ≡ with_parts (layout_of (structs_of s.now) (type_of wanted.now)).size (type_of wanted.now) (map run_of runs.old.items) (parts_at (structs_of s.now) (type_of t.now) address)) }
+    ensures { IfOk result (λ _. map run_of runs.new.items ≡ with_parts (structs_of s.now) (type_of wanted.now) (map run_of runs.old.items) (parts_at (structs_of s.now) (type_of t.now) address)) }
 {
     push_same(s, wanted, runs, t, address)?;
     match t {
@@ -159,7 +159,7 @@ fn push_elements(
     requires some { 0 < (layout_of (structs_of s.now) (type_of wanted.now)).size }
     requires sized { IsSized (structs_of s.now) (type_of element.now) }
     requires inside { address + (layout_of (structs_of s.now) (type_of element.now)).size * count ≤ 65535 }
-    ensures { IfOk result (λ _. map run_of runs.new.items ≡ with_parts (layout_of (structs_of s.now) (type_of wanted.now)).size (type_of wanted.now) (map run_of runs.old.items) (inner_parts (structs_of s.now) (array (type_of element.now) count) address)) }
+    ensures { IfOk result (λ _. map run_of runs.new.items ≡ with_parts (structs_of s.now) (type_of wanted.now) (map run_of runs.old.items) (inner_parts (structs_of s.now) (array (type_of element.now) count) address)) }
 {
     let one = type_layout(s, element).size;
     for i in 0..count {
@@ -181,7 +181,7 @@ fn push_fields(
     requires some { 0 < (layout_of (structs_of s.now) (type_of wanted.now)).size }
     requires known { k < length s.now.structs }
     requires inside { address + (struct_at (structs_of s.now) (length (structs_of s.now)) k).size ≤ 65535 }
-    ensures { IfOk result (λ _. map run_of runs.new.items ≡ with_parts (layout_of (structs_of s.now) (type_of wanted.now)).size (type_of wanted.now) (map run_of runs.old.items) (parts_in_struct (structs_of s.now) (length (structs_of s.now)) k address)) }
+    ensures { IfOk result (λ _. map run_of runs.new.items ≡ with_parts (structs_of s.now) (type_of wanted.now) (map run_of runs.old.items) (parts_in_struct (structs_of s.now) (length (structs_of s.now)) k address)) }
 {
     let fields = fields_of(s, k);
     let mut done = Layout { size: 0, align: 1 };

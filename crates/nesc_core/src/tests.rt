@@ -3,12 +3,12 @@
 ghost use Rattle.std.specs.Prelude.{◌≡◌, ◌<◌, ◌^◌, IfOk, [], ◌∷◌, map};
 ghost use Rattle.nesc_core.specs.Nodes.{nodes_of};
 ghost use Rattle.nesc_core.specs.Rows as rows;
-ghost use Rattle.nesc_core.specs.Size.{IsSized};
+ghost use Rattle.nesc_core.specs.Size.{IsSized, layout_of};
 ghost use Rattle.nesc_core.specs.View.{body_of, expr_of, field_of, object_of, place_of, program_of, stmt_of, structs_of, type_of};
 
 use crate::{
-    BinOp, Body, CoreExpr, CoreStmt, CoreType, Field, Object, Place, Program, Structs, nodes, size,
-    worked_rows,
+    BinOp, Body, CoreExpr, CoreStmt, CoreType, Field, Object, Place, Program, Structs, nodes,
+    ranges, size, worked_rows,
 };
 use nm_base::{IntType, List, Name, NoMemory, Pos};
 use std::alloc::Global;
@@ -160,6 +160,14 @@ fn size_in_rows(s: &Structs, t: &CoreType) -> u32
     size(s, t)
 }
 
+fn ranges_in_rows(alloc: Global, p: &Program, t: &CoreType) -> Result<Vec<(u16, u16)>, NoMemory>
+    requires rows { program_of p.now ≡ rows.program }
+    requires sized { IsSized rows.structs (type_of t.now) }
+    requires some { 0 < (layout_of rows.structs (type_of t.now)).size }
+{
+    ranges(alloc, p, t)
+}
+
 #[test]
 fn nodes_of_a_program(rt: HostRuntime) -> Result<(), Fail> {
     let p = program(rt.alloc())?;
@@ -178,6 +186,18 @@ fn sizes_of_types(rt: HostRuntime) -> Result<(), Fail> {
     assert_eq!(rt; size_in_rows(&s, &CoreType::Struct(0)), 0);
     assert_eq!(rt; size_in_rows(&s, &CoreType::Struct(1)), 6);
     assert_eq!(rt; size_in_rows(&s, &CoreType::Struct(2)), 10);
+    Ok(())
+}
+
+#[test]
+fn ranges_of_types(rt: HostRuntime) -> Result<(), Fail> {
+    let alloc = rt.alloc();
+    let p = program(alloc)?;
+    let numbers = ranges_in_rows(alloc, &p, &CoreType::Int(IntType::U16))?;
+    let want = [(0x1100, 1), (0x1108, 2), (0x1112, 1), (0x111C, 1)];
+    assert_eq!(rt; numbers.as_slice(), want.as_slice());
+    let structs = ranges_in_rows(alloc, &p, &CoreType::Struct(2))?;
+    assert_eq!(rt; structs.as_slice(), [(0x1100, 2)].as_slice());
     Ok(())
 }
 

@@ -6,4 +6,4 @@ use Rattle.nesc_core.proofs.runs.ranges.Given as goal
 
 abbrev pub invariant-loop-o : goal.invariant-loop-o
 invariant-loop-o l =
-    map run_of l.runs.items ≡ with_parts (layout_of (structs_of l.p.structs) (type_of l.t)).size (type_of l.t) [] (taken_in (structs_of l.p.structs) (map object_of (take l.o-index l.o-items)))
+    map run_of l.runs.items ≡ with_parts (structs_of l.p.structs) (type_of l.t) [] (taken_in (structs_of l.p.structs) (map object_of (take l.o-index l.o-items)))
