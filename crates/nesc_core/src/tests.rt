@@ -7,7 +7,7 @@ ghost use Rattle.nesc_core.specs.Size.{IsSized, layout_of};
 ghost use Rattle.nesc_core.specs.View.{body_of, expr_of, field_of, object_of, place_of, program_of, stmt_of, structs_of, type_of};
 
 use crate::{
-    BinOp, Body, CoreExpr, CoreStmt, CoreType, Field, Object, Place, Program, Structs, nodes,
+    BinOp, Body, CoreExpr, CoreStmt, CoreType, Field, Object, Place, Program, Structs, each_struct_is_its_fields, nodes,
     ranges, size, worked_rows,
 };
 use nm_base::{IntType, List, Name, NoMemory, Pos};
@@ -203,5 +203,6 @@ fn ranges_of_types(rt: HostRuntime) -> Result<(), Fail> {
 
 #[test]
 fn theorems_can_be_called() {
+    each_struct_is_its_fields();
     worked_rows();
 }
