@@ -1,5 +1,4 @@
 use Rattle.std.proofs.Common.{refl}
-use Rattle.core_meaning.specs.Size.{struct_at}
 use Rattle.core_meaning.specs.NumberRows.{NumberRows}
 use Rattle.core_meaning.proofs.rows.worked_rows.Goals as goal
 
@@ -42,7 +41,6 @@ number_rows = record {
 }
 
 pub returns : goal.returns
-unfolding struct_at
 returns c = record {
   one_c_boots = λ answers n. refl;
   arithmetic = number_rows;
