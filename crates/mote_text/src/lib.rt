@@ -7,3 +7,6 @@ mod trace;
 
 pub use image_text::push_image;
 pub use trace::{End, Event};
+
+#[cfg(test)]
+mod tests;

@@ -1,0 +1,73 @@
+//! What a reader sees: the text of an image, and the lines of a trace.
+
+use crate::{End, Event, push_image};
+use mote_devices::{Given, Shown};
+use msp_isa::Image;
+use std::test::Fail;
+
+// Two full lines and a half.
+const CODE: [u16; 20] = [
+    0x4031, 0x3900, 0xD232, 0x40B2, 0x0005, 0x0120, 0xABCD, 0xFFFF, 0x0000, 0x0001, 0x0002, 0x0003,
+    0x0004, 0x0005, 0x0006, 0x0007, 0x8000, 0x00FF, 0xFF00, 0x4130,
+];
+
+const IMAGE_TEXT: &str = "@4000
+31 40 00 39 32 D2 B2 40 05 00 20 01 CD AB FF FF
+00 00 01 00 02 00 03 00 04 00 05 00 06 00 07 00
+00 80 FF 00 00 FF 30 41
+@FFE0
+26 40 26 40 26 40 26 40 26 40 26 40 26 40 26 40
+26 40 26 40 26 40 26 40 26 40 26 40 26 40 00 40
+q
+";
+
+const TRACE_TEXT: &str = "0 arrive 3 65535
+7 unplug 3
+40 in 015e 1023
+41 out 0120 0
+999 enter 12
+4294967295 fault 2
+end slots 10000 ran 812 sp 38fa off 1
+";
+
+#[test]
+fn prints_an_image(rt: HostRuntime) -> Result<(), Fail> {
+    let mut vectors = [0x4026; 16];
+    vectors[15] = 0x4000;
+    let image = Image {
+        code: CODE.to_vec(rt.alloc())?,
+        vectors,
+        ram: 0,
+        stack: 4,
+    };
+    let mut text = String::new(rt.alloc());
+    push_image(&mut text, &image)?;
+    assert_eq!(rt; text.as_str(), IMAGE_TEXT);
+    Ok(())
+}
+
+#[test]
+fn prints_a_trace(rt: HostRuntime) -> Result<(), Fail> {
+    let events = [
+        (0, Shown::Given(Given::Arrive(3, 0xFFFF))),
+        (7, Shown::Given(Given::Unplug(3))),
+        (40, Shown::In(0x015E, 1023)),
+        (41, Shown::Out(0x0120, 0)),
+        (999, Shown::Enter(12)),
+        (u32::MAX, Shown::Fault(2)),
+    ];
+    let mut text = String::new(rt.alloc());
+    for (slot, shown) in events {
+        let event = Event { slot, shown };
+        text.push_str(&format!(in rt.alloc(); "{event}\n")?)?;
+    }
+    let end = End {
+        slots: 10000,
+        ran: 812,
+        least: 0x38FA,
+        off: true,
+    };
+    text.push_str(&format!(in rt.alloc(); "{end}\n")?)?;
+    assert_eq!(rt; text.as_str(), TRACE_TEXT);
+    Ok(())
+}
