@@ -1,4 +1,4 @@
--- Hexadecimal numbers of a fixed width.
+-- Hexadecimal numbers of a fixed width (own).
 use Rattle.std.specs.Prelude.{ℕ, ◌+◌, ◌/◌, ◌%◌, nat_lt, if◌then◌else◌, List, [], ◌∷◌}
 use Rattle.std.specs.Char.{digit_char}
 

@@ -8,7 +8,7 @@ use crate::hex::upper_digit;
 use msp_isa::Image;
 use std::alloc::AllocError;
 
-/// Puts the TI-TXT form of an image behind a text. After an error a part of it stands there.
+/// Puts the TI-TXT form of an image behind a text. After an error some of it may stand there.
 pub fn push_image(text: &mut String, image: &Image) -> Result<(), AllocError>
     ensures { OnOk result (string_bytes text.new ≡ string_bytes text.old ++ image_text image.now.code.items image.now.vectors) }
 {

@@ -1,4 +1,5 @@
--- One step: an acceptance, an idle slot, an illegal word or one instruction.
+-- One step: an acceptance, an idle slot, an illegal word or one instruction (SLAU049, 2.2 for acceptance, 2.3 for CPUOFF, 3.4 for
+-- the instructions; own: the gate follows GIE one instruction late, and what an illegal word or a write to FAULT does).
 use Rattle.std.specs.Prelude.{ℕ, ℤ, pos, negsuc, zero, suc, ◌+◌, ◌-◌, ◌*◌, ◌/◌, ◌%◌, ◌==◌, Bool, true, false, ◌&&◌, not, nat_lt, if◌then◌else◌, List, [], ◌∷◌, Option, Some, None}
 use Rattle.nm_base.specs.Lists.{bit}
 use Rattle.msp_isa.specs.declared.instr.Op2.{Op2}

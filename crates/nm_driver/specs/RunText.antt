@@ -1,4 +1,4 @@
--- What a run prints: the report, the bytes of data and of stack, the image, and the trace of its run.
+-- What a run prints: the report, the bytes of data and of stack, the image, and the trace of its run (own).
 use Rattle.std.specs.Prelude.{ℕ, List, [], ◌∷◌, ◌++◌, codes, decimal}
 use Rattle.mote_devices.specs.Board.{empty_board}
 use Rattle.msp_isa.specs.Image.{image_map}

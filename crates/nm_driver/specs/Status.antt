@@ -1,4 +1,4 @@
--- The numbers of the answers.
+-- The numbers of the answers (own).
 use Rattle.std.specs.Prelude.{ℕ}
 use Rattle.nm_driver.specs.declared.status.Status.{Status}
 use Rattle.nm_driver.specs.declared.status.Status.TheVariants.{Done, Refused, Usage, Missing, ReadFault, WriteFault, BadSchedule, Limit, TooLarge, NoMemory, BadImage}
