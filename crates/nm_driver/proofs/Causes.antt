@@ -7,7 +7,7 @@ use Rattle.std.proofs.lemmas.Bool.Decides.{nat_tests}
 use Rattle.nm_driver.specs.declared.form.Constant.{Constant}
 use Rattle.nm_base.specs.Outside.{appended}
 use Rattle.nm_driver.specs.Content.{IsStop, HasRunText, HasRunCause}
-use Rattle.nm_driver.specs.Form.{HasForm}
+use Rattle.nm_driver.specs.Form.{HasForm, is_built_in}
 use Rattle.nm_driver.specs.Output.{AreWords, HasCause, HasText, IfMissing, IsDone, IsMissing, IsRefused, IsRunText, IsBadSchedule, IsSource, Told, Wrote, application, source_file, wired}
 use Rattle.nm_driver.specs.declared.status.Status.{Status}
 use Rattle.nm_driver.specs.declared.status.Status.TheVariants.{Done, Refused, Usage, Missing, ReadFault, WriteFault, BadSchedule, Limit, TooLarge, NoMemory, BadImage}
@@ -36,18 +36,18 @@ third f (w ∷ v ∷ u ∷ ws) r a s x e i = ap f i ∙ (let h : f u ≡ s = cc 
 
 module _ (words : List (List ℕ)) (app schedule : List ℕ) (are : AreWords words app schedule) where
   -- an answer about the application's file
-  pub stops : (told : Told) (status : Status) (text : List ℕ) → IsStop (source_file app) status text → IfMissing status (λ n. told n ≡ None) → HasCause told words status
-  stops told (Missing name) text h lacks = record { app = app; schedule = schedule; words_are = are; lacks = lacks; first = inl h.0 }
-  stops told ReadFault text h lacks = tt
-  stops told Done text h lacks = absurd h
-  stops told (Refused r) text h lacks = absurd h
-  stops told Usage text h lacks = absurd h
-  stops told WriteFault text h lacks = absurd h
-  stops told (BadSchedule n) text h lacks = absurd h
-  stops told (Limit l) text h lacks = absurd h
-  stops told (TooLarge room n) text h lacks = absurd h
-  stops told NoMemory text h lacks = absurd h
-  stops told (BadImage n) text h lacks = absurd h
+  pub stops : (told : Told) → is_built_in app ≡ false → (status : Status) (text : List ℕ) → IsStop (source_file app) status text → IfMissing status (λ n. told n ≡ None) → HasCause told words status
+  stops told own (Missing name) text h lacks = record { app = app; schedule = schedule; words_are = are; lacks = lacks; first = inl (h.0, own) }
+  stops told own ReadFault text h lacks = tt
+  stops told own Done text h lacks = absurd h
+  stops told own (Refused r) text h lacks = absurd h
+  stops told own Usage text h lacks = absurd h
+  stops told own WriteFault text h lacks = absurd h
+  stops told own (BadSchedule n) text h lacks = absurd h
+  stops told own (Limit l) text h lacks = absurd h
+  stops told own (TooLarge room n) text h lacks = absurd h
+  stops told own NoMemory text h lacks = absurd h
+  stops told own (BadImage n) text h lacks = absurd h
 
   -- an answer about the schedule, or the end
   pub runs : (told : Told) (writes : List Constant) → IsSource told app writes → (status : Status) (text : List ℕ) → HasRunText schedule (wired app writes) status text → HasRunCause told schedule status → HasCause told words status
@@ -81,6 +81,9 @@ module _ (words : List (List ℕ)) (app schedule : List ℕ) (are : AreWords wor
 none_some : {A : Type 0} (x : A) (o : Option A) → o ≡ None → o ≡ Some x → ⊥
 none_some x o e f = let h = sym e ∙ f in cc
 
+apart : false ≡ true → ⊥
+apart h = cc
+
 same_some : {A : Type 0} (x y : A) (o : Option A) → o ≡ Some x → o ≡ Some y → x ≡ y
 same_some x y o e f = let h = sym e ∙ f in cc
 
@@ -89,15 +92,19 @@ module _ (told : Told) (words : List (List ℕ)) (good : IsDone told words) wher
   not_missing name m =
       let w = two_words words m.app m.schedule good.app good.schedule m.words_are good.words_are in
       ⊎_elim
-      (λ e. none_some good.source.text (told name) m.lacks (ap told (e ∙ ap source_file w.0) ∙ good.source.read))
+      (λ e. none_some good.source.text (told name) m.lacks (ap told (e.0 ∙ ap source_file w.0) ∙ good.source.read))
       (λ s. none_some [] (told name) m.lacks (ap told (s.0 ∙ w.1) ∙ good.empty))
       m.first
 
   not_refused : (r : _) → IsRefused told words r → ⊥
   not_refused r m =
       let w = two_words words m.app m.schedule good.app good.schedule m.words_are good.words_are in
-      let same = same_some m.text good.source.text (told (source_file good.app)) (ap (λ a. told (source_file a)) (sym w.0) ∙ m.read) good.source.read in
-      m.formless good.writes (subst (λ a. HasForm a m.text good.writes) (sym w.0) (subst (λ t. HasForm good.app t good.writes) (sym same) good.source.form))
+      ⊎_elim
+      (λ built. apart (sym good.source.own ∙ ap is_built_in (sym w.0) ∙ built))
+      (λ f.
+      let same = same_some f.0 good.source.text (told (source_file good.app)) (ap (λ a. told (source_file a)) (sym w.0) ∙ f.1) good.source.read in
+      f.2 good.writes (subst (λ a. HasForm a f.0 good.writes) (sym w.0) (subst (λ t. HasForm good.app t good.writes) (sym same) good.source.form)))
+      m.formless
 
   not_bad : (n : ℕ) → IsBadSchedule told words n → ⊥
   not_bad n m =

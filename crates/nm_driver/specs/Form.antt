@@ -77,6 +77,13 @@ keywords =
 abbrev pub is_name : List ℕ → Bool
 is_name word = is_letter (slice_index word 0) && list_all is_word_byte word && not (list_any (λ k. pointwise nat_eq k word) keywords)
 
+-- the components and interfaces whose texts are built in: the files are not asked for them, and none has the form
+unfoldable pub built_in : List (List ℕ)
+built_in = codes "Boot" ∷ codes "Init" ∷ codes "MainC" ∷ []
+
+abbrev pub is_built_in : List ℕ → Bool
+is_built_in app = list_any (λ k. pointwise nat_eq k app) built_in
+
 -- these tokens are the statements of these writes
 pub record AreStatements (tokens : List (List ℕ)) (writes : List Constant) : Type 0 where
   pub written : List Written

@@ -1,5 +1,5 @@
 -- What the top call answers and writes (own).
-use Rattle.std.specs.Prelude.{◌≡◌, ◌<◌, ◌≤◌, ◌⊎◌, ℕ, ◌+◌, ◌/◌, ◌%◌, List, [], ◌∷◌, ◌++◌, Option, Some, None, length, map, codes, decimal}
+use Rattle.std.specs.Prelude.{◌≡◌, ◌<◌, ◌≤◌, ◌⊎◌, ℕ, ◌+◌, ◌/◌, ◌%◌, true, false, List, [], ◌∷◌, ◌++◌, Option, Some, None, length, map, codes, decimal}
 use Rattle.nm_base.specs.declared.refusal.Left.TheVariants.{Later}
 use Rattle.nm_base.specs.declared.refusal.Refusal.{Refusal}
 use Rattle.nm_base.specs.declared.refusal.Refusal.TheVariants.{LeftOut}
@@ -11,10 +11,10 @@ use Rattle.nesc_core.specs.Plain.{Program}
 use Rattle.nesc_core.specs.Weights.{pace_of_program}
 use Rattle.core_meaning.specs.BootBody.{constant_writes_program}
 use Rattle.core_meaning.specs.SourceOf.{source_of}
-use Rattle.msp_isa.specs.Image.{image_map}
+use Rattle.msp_isa.specs.Image.{IsImage, image_map}
 use Rattle.preempt_core.specs.Mote.{mote}
 use Rattle.preempt_core.specs.Allowed.{Allowed}
-use Rattle.nm_driver.specs.Form.{HasForm, constant_of}
+use Rattle.nm_driver.specs.Form.{HasForm, constant_of, is_built_in}
 use Rattle.nm_driver.specs.RunText.{run_text}
 use Rattle.nm_driver.specs.declared.form.Constant.{Constant}
 use Rattle.nm_driver.specs.declared.status.Status.{Status}
@@ -38,6 +38,7 @@ Told = List ℕ → Option (List ℕ)
 
 -- the application's file has the form, with these writes
 pub record IsSource (told : Told) (app : List ℕ) (writes : List Constant) : Type 0 where
+  pub own : is_built_in app ≡ false
   pub text : List ℕ
   pub read : told (source_file app) ≡ Some text
   pub form : HasForm app text writes
@@ -56,21 +57,24 @@ pub record IsDone (told : Told) (words : List (List ℕ)) : Type 0 where
   pub source : IsSource told app writes
   pub empty : told schedule ≡ Some []
 
+-- the application's text is built in, or its file has not the form
+abbrev pub IsFormless : Told → List ℕ → Type 0
+IsFormless told app =
+    (is_built_in app ≡ true) ⊎ ((text : List ℕ) × (told (source_file app) ≡ Some text) × ((writes : List Constant) → HasForm app text writes → ⊥))
+
 -- the first file that is needed and not there
 pub record IsMissing (told : Told) (words : List (List ℕ)) (name : List ℕ) : Type 0 where
   pub app : List ℕ
   pub schedule : List ℕ
   pub words_are : AreWords words app schedule
   pub lacks : told name ≡ None
-  pub first : (name ≡ source_file app) ⊎ ((name ≡ schedule) × ((writes : List Constant) × IsSource told app writes))
+  pub first : ((name ≡ source_file app) × (is_built_in app ≡ false)) ⊎ ((name ≡ schedule) × ((writes : List Constant) × IsSource told app writes))
 
 pub record IsRefused (told : Told) (words : List (List ℕ)) (refusal : Refusal) : Type 0 where
   pub app : List ℕ
   pub schedule : List ℕ
   pub words_are : AreWords words app schedule
-  pub text : List ℕ
-  pub read : told (source_file app) ≡ Some text
-  pub formless : (writes : List Constant) → HasForm app text writes → ⊥
+  pub formless : IsFormless told app
   pub this : refusal ≡ later
 
 pub record IsBadSchedule (told : Told) (words : List (List ℕ)) (line : ℕ) : Type 0 where
@@ -154,6 +158,11 @@ pub record IsRunText (program : Program) (text : List ℕ) : Type 0 where
   pub allowed : (b : BoardState) (rows : List Due) (n : ℕ) → Allowed (source_of program) (pace_of_program program) b (mote (image_map code vectors) b rows) n
   -- .. within its stack
   pub bounded : (b : BoardState) (rows : List Due) (n : ℕ) → 0x3900 ≤ (mote (image_map code vectors) b rows n).least + stack
+  pub image : IsImage code vectors
+  -- these programs have no data
+  pub no_data : ram ≡ 0
+  -- data and stack fit the memory
+  pub fits : ram + stack ≤ 10240
 
 -- the text is that of a run, of the application's file where that is told
 pub record IsOutput (told : Option Told) (words : List (List ℕ)) (text : List ℕ) : Type 0 where
@@ -171,8 +180,15 @@ HasText told words ReadFault text = text ≡ line_of words ReadFault
 HasText told words (BadSchedule line) text = text ≡ line_of words (BadSchedule line)
 HasText told words _ text = ⊥
 
--- what a sink has taken at each answer: nothing, or the beginning of the text of some answer, or all of it
+-- an answer that is due, and its text
+pub record IsDue (told : Option Told) (words : List (List ℕ)) (status : Status) (text : List ℕ) : Type 0 where
+  pub is_text : HasText told words status text
+  pub cause : (files : Told) → told ≡ Some files → HasCause files words status
+  pub usage : status ≡ Usage → AreRunWords words → ⊥
+  pub not_usage : (AreRunWords words → ⊥) → IsUsageOrLess status
+
+-- what a sink has taken at each answer: nothing, or the beginning of the text of the answer that was due, or all of it
 abbrev pub Wrote : Option Told → List (List ℕ) → Status → Option (List ℕ) → Option (List ℕ) → Type 0
 Wrote told words NoMemory old new = new ≡ old
-Wrote told words WriteFault old new = (status : Status) × (text : List ℕ) × HasText told words status text × AppendsPart old new text
+Wrote told words WriteFault old new = (status : Status) × (text : List ℕ) × IsDue told words status text × AppendsPart old new text
 Wrote told words status old new = (text : List ℕ) × HasText told words status text × (new ≡ appended old text)

@@ -5,7 +5,7 @@ ghost use Rattle.std.specs.List.{list_all, list_any, flat_map, AllByRecursion};
 ghost use Rattle.std.specs.Cmp.Lexicographic.{pointwise};
 ghost use Rattle.nm_driver.specs.Tokens.{is_letter, is_word_byte};
 ghost use Rattle.nm_driver.specs.declared.form.Constant.{Constant};
-ghost use Rattle.nm_driver.specs.Form.{AreStatements, HasForm, IsWritten, Written, head, is_device_port, is_name, keywords, statement, tail};
+ghost use Rattle.nm_driver.specs.Form.{AreStatements, HasForm, IsWritten, Written, head, is_built_in, is_device_port, is_name, keywords, statement, tail};
 
 use crate::number::{is_hexadecimal, number};
 use crate::tokens::{is_letter, is_word_byte, tokens_of};
@@ -19,6 +19,8 @@ pub(crate) struct Constant {
     pub value: u16,
     pub is_decimal: bool,
 }
+
+const BUILT_IN: [&str; 3] = ["Boot", "Init", "MainC"];
 
 const MOST_WRITES: usize = 200;
 
@@ -133,6 +135,13 @@ fn is_keyword(word: &str) -> bool
     ensures { result ≡ list_any (λ k. pointwise nat_eq k word.now) keywords }
 {
     KEYWORDS.contains(&word)
+}
+
+/// Whether the text of this component or interface is built in.
+pub(crate) fn is_built_in(app: &str) -> bool
+    ensures { result ≡ is_built_in app.now }
+{
+    BUILT_IN.contains(&app)
 }
 
 /// Whether a word may name a component.

@@ -91,7 +91,7 @@ fn answer(
 fn answers_with_its_text(rt: HostRuntime) -> Result<(), Fail> {
     let alloc = rt.alloc();
     let later = "refused E08 Odd.nc:1:1 later\n";
-    let cases: [(&[&str], u8, &str); 9] = [
+    let cases: [(&[&str], u8, &str); 10] = [
         (&["run", "OneC", "none.txt"], 0, FIRST_RUN),
         (&["run", "OneC"], 2, USAGE),
         (&["check", "OneC", "none.txt"], 2, USAGE),
@@ -107,6 +107,11 @@ fn answers_with_its_text(rt: HostRuntime) -> Result<(), Fail> {
             &["run", "Two", "none.txt"],
             1,
             "refused E08 Two.nc:1:1 later\n",
+        ),
+        (
+            &["run", "MainC", "none.txt"],
+            1,
+            "refused E08 MainC.nc:1:1 later\n",
         ),
         (&["run", "OneC", "some.txt"], 6, "schedule line 1\n"),
     ];

@@ -9,7 +9,7 @@ ghost use Rattle.nm_driver.specs.Output.{AreRunWords, HasCause, HasText, IfMissi
 
 use crate::answer::{Answer, missing, read_fault, refused_later, schedule_line, usage};
 use crate::compile::{Compiled, compile};
-use crate::form::writes_of;
+use crate::form::{is_built_in, writes_of};
 use crate::output::run_output;
 use crate::status::Status;
 use nm_base::{Files, Found, Name, NoMemory, Sink, write_all};
@@ -61,13 +61,17 @@ fn prepare<F: Files>(alloc: Global, words: &[String], files: &mut F) -> Result<A
         return usage(alloc);
     }
     let app = words[1].as_str();
-    let file = format!(in alloc; "{app}.nc")?;
-    let source = match read_file(alloc, files, file.as_str())? {
+    let name = format!(in alloc; "{app}.nc")?;
+    let file = name.as_str();
+    if is_built_in(app) {
+        return refused_later(alloc, file);
+    }
+    let source = match read_file(alloc, files, file)? {
         Content::Whole(source) => source,
         Content::Stops(answer) => return Ok(answer),
     };
     let Some(writes) = writes_of(alloc, app, &source)? else {
-        return refused_later(alloc, file.as_str());
+        return refused_later(alloc, file);
     };
     let compiled = compile(alloc, app, &writes)?;
     run_on(alloc, words[2].as_str(), &compiled, files)

@@ -26,4 +26,7 @@ returns-clause-image c =
           (subst (WritesConstants (source_of (wired app writes))) (sym (c.deref.ensures.value ∙ c.in_ok-ports.ensures)) (wired_writes app writes c.requires.good))
           (paced (wired app writes)));
       bounded = c.in_ok-image_of.ensures.stack;
+      image = c.in_ok-image_of.ensures.image;
+      no_data = c.in_ok-image_of.ensures.data;
+      fits = c.in_ok-image_of.ensures.room;
     }

@@ -1,8 +1,8 @@
-use Rattle.std.proofs.Common.{◌≡◌, ◌≤◌, length, true, false, Some, None, map, string_bytes, refl, sym, ap, subst, ◌∙◌}
+use Rattle.std.proofs.Common.{inl, inr, ◌≡◌, ◌≤◌, length, true, false, Some, None, map, string_bytes, refl, sym, ap, subst, ◌∙◌}
 use Rattle.std.specs.Prelude.{codes}
 use Rattle.std.specs.List.{AllByRecursion}
 use Rattle.nesc_core.specs.View.{program_of}
-use Rattle.nm_driver.specs.Form.{HasForm, IsConstant}
+use Rattle.nm_driver.specs.Form.{HasForm, IsConstant, is_built_in}
 use Rattle.nm_driver.specs.Output.{HasCause, IfMissing, Told, source_file, wired}
 use Rattle.nm_driver.specs.declared.status.Status.{Status}
 use Rattle.nm_driver.specs.declared.status.Status.TheVariants.{Done, Refused, Usage, Missing, ReadFault, WriteFault, BadSchedule, Limit, TooLarge, NoMemory, BadImage}
@@ -35,29 +35,40 @@ returns-in-Stops-clause-cause g c = λ told h.
     let words = map string_bytes c.args.words.now in
     let are = c.if-not-are_run_words.ensures.0 refl in
     let app : c.as_str-app.result.now ≡ are.0 = c.as_str-app.ensures.value ∙ second string_bytes c.args.words.now (codes "run") are.0 are.1 c.index-words-1.result are.2 c.index-words-1.is in
-    let file : c.as_str.result.now ≡ source_file are.0 = c.as_str.ensures.value ∙ c.in_ok-file.ensures.ok ∙ ap source_file app in
+    let file : c.as_str-file.result.now ≡ source_file are.0 = c.as_str-file.ensures.value ∙ c.in_ok-name.ensures.ok ∙ ap source_file app in
     let stop = rw file at (rw c.in-Stops.is at c.in_ok-source.ensures.stops) in
     let lacks = rw c.in-Stops.is at c.in_ok-source.ensures.lacks in
-    stops words are.0 are.1 are.2 told c.in-Stops.answer.status (string_bytes c.in-Stops.answer.text) stop
+    stops words are.0 are.1 are.2 told (ap is_built_in (sym app) ∙ sym c.is_built_in.ensures ∙ c.if-is_built_in.false) c.in-Stops.answer.status (string_bytes c.in-Stops.answer.text) stop
     (told_lack c.in-Stops.answer.status told (λ files. g.F.Files.texts c.args.files.now ≡ Some files) h lacks)
+
+pub returns-then-is_built_in-clause-cause : goal.returns-then-is_built_in-clause-cause
+returns-then-is_built_in-clause-cause g c =
+    let words = map string_bytes c.args.words.now in
+    let are = c.if-not-are_run_words.ensures.0 refl in
+    let app : c.as_str-app.result.now ≡ are.0 = c.as_str-app.ensures.value ∙ second string_bytes c.args.words.now (codes "run") are.0 are.1 c.index-words-1.result are.2 c.index-words-1.is in
+    if_ok c.refused_later.result (λ a h told e. subst (HasCause told words) (sym h.0) (record {
+      app = are.0;
+      schedule = are.1;
+      words_are = are.2;
+      formless = inl (ap is_built_in (sym app) ∙ sym c.is_built_in.ensures ∙ c.if-is_built_in.true);
+      this = refl;
+    })) c.refused_later.ensures
 
 pub returns-in_default-clause-cause : goal.returns-in_default-clause-cause
 returns-in_default-clause-cause g c =
     let words = map string_bytes c.args.words.now in
     let are = c.if-not-are_run_words.ensures.0 refl in
     let app : c.as_str-app.result.now ≡ are.0 = c.as_str-app.ensures.value ∙ second string_bytes c.args.words.now (codes "run") are.0 are.1 c.index-words-1.result are.2 c.index-words-1.is in
-    let file : c.as_str.result.now ≡ source_file are.0 = c.as_str.ensures.value ∙ c.in_ok-file.ensures.ok ∙ ap source_file app in
+    let file : c.as_str-file.result.now ≡ source_file are.0 = c.as_str-file.ensures.value ∙ c.in_ok-name.ensures.ok ∙ ap source_file app in
     let read = rw c.in-Whole.is at c.in_ok-source.ensures.whole in
     let formless = rw c.in_default.is at c.in_ok-writes.ensures in
-    if_ok c.refused_later.result (λ a h told e. subst (HasCause told words) (sym h.0) (record {
+    if_ok c.refused_later-in_default.result (λ a h told e. subst (HasCause told words) (sym h.0) (record {
       app = are.0;
       schedule = are.1;
       words_are = are.2;
-      text = c.in-Whole.source.items;
-      read = ap told (sym file) ∙ read told e;
-      formless = λ writes form. formless writes (subst (λ t. HasForm c.as_str-app.result.now t writes) (sym c.deref.ensures.value) (subst (λ n. HasForm n c.in-Whole.source.items writes) (sym app) form));
+      formless = inr (c.in-Whole.source.items, ap told (sym file) ∙ read told e, λ writes form. formless writes (subst (λ t. HasForm c.as_str-app.result.now t writes) (sym c.deref.ensures.value) (subst (λ n. HasForm n c.in-Whole.source.items writes) (sym app) form)));
       this = refl;
-    })) c.refused_later.ensures
+    })) c.refused_later-in_default.ensures
 
 pub compile-requires-clause-good : goal.compile-requires-clause-good
 compile-requires-clause-good g c =
@@ -74,8 +85,8 @@ returns-clause-cause g c =
     let words = map string_bytes c.args.words.now in
     let are = c.if-not-are_run_words.ensures.0 refl in
     let app : c.as_str-app.result.now ≡ are.0 = c.as_str-app.ensures.value ∙ second string_bytes c.args.words.now (codes "run") are.0 are.1 c.index-words-1.result are.2 c.index-words-1.is in
-    let schedule : c.as_str-2.result.now ≡ are.1 = c.as_str-2.ensures.value ∙ third string_bytes c.args.words.now (codes "run") are.0 are.1 c.index-words-2.result are.2 c.index-words-2.is in
-    let file : c.as_str.result.now ≡ source_file are.0 = c.as_str.ensures.value ∙ c.in_ok-file.ensures.ok ∙ ap source_file app in
+    let schedule : c.as_str.result.now ≡ are.1 = c.as_str.ensures.value ∙ third string_bytes c.args.words.now (codes "run") are.0 are.1 c.index-words-2.result are.2 c.index-words-2.is in
+    let file : c.as_str-file.result.now ≡ source_file are.0 = c.as_str-file.ensures.value ∙ c.in_ok-name.ensures.ok ∙ ap source_file app in
     let read = rw c.in-Whole.is at c.in_ok-source.ensures.whole in
     let form = rw c.in-Some.is at c.in_ok-writes.ensures in
     let writes = c.in-Some.writes.items in
@@ -84,6 +95,7 @@ returns-clause-cause g c =
     let cause = rw schedule at c.run_on.ensures.cause in
     if_ok_two c.run_on.result
     (λ a t k told e. runs words are.0 are.1 are.2 told writes (record {
+      own = ap is_built_in (sym app) ∙ sym c.is_built_in.ensures ∙ c.if-is_built_in.false;
       text = c.in-Whole.source.items;
       read = ap told (sym file) ∙ read told e;
       form = subst (λ n. HasForm n c.in-Whole.source.items writes) app (subst (λ t. HasForm c.as_str-app.result.now t writes) c.deref.ensures.value form);
@@ -95,8 +107,8 @@ returns-clause-text g c =
     let words = map string_bytes c.args.words.now in
     let are = c.if-not-are_run_words.ensures.0 refl in
     let app : c.as_str-app.result.now ≡ are.0 = c.as_str-app.ensures.value ∙ second string_bytes c.args.words.now (codes "run") are.0 are.1 c.index-words-1.result are.2 c.index-words-1.is in
-    let schedule : c.as_str-2.result.now ≡ are.1 = c.as_str-2.ensures.value ∙ third string_bytes c.args.words.now (codes "run") are.0 are.1 c.index-words-2.result are.2 c.index-words-2.is in
-    let file : c.as_str.result.now ≡ source_file are.0 = c.as_str.ensures.value ∙ c.in_ok-file.ensures.ok ∙ ap source_file app in
+    let schedule : c.as_str.result.now ≡ are.1 = c.as_str.ensures.value ∙ third string_bytes c.args.words.now (codes "run") are.0 are.1 c.index-words-2.result are.2 c.index-words-2.is in
+    let file : c.as_str-file.result.now ≡ source_file are.0 = c.as_str-file.ensures.value ∙ c.in_ok-name.ensures.ok ∙ ap source_file app in
     let read = rw c.in-Whole.is at c.in_ok-source.ensures.whole in
     let form = rw c.in-Some.is at c.in_ok-writes.ensures in
     let writes = c.in-Some.writes.items in
@@ -104,6 +116,7 @@ returns-clause-text g c =
     let text = rw schedule at (rw program at c.run_on.ensures.text) in
     if_ok c.run_on.result
     (λ a t. texts words are.0 are.1 are.2 (g.F.Files.texts c.args.files.now) writes (λ told e. record {
+      own = ap is_built_in (sym app) ∙ sym c.is_built_in.ensures ∙ c.if-is_built_in.false;
       text = c.in-Whole.source.items;
       read = ap told (sym file) ∙ read told e;
       form = subst (λ n. HasForm n c.in-Whole.source.items writes) app (subst (λ t. HasForm c.as_str-app.result.now t writes) c.deref.ensures.value form);
