@@ -1,0 +1,11 @@
+pub mod Runs
+pub mod Splicing
+pub mod Texts
+pub mod Quoted
+pub mod Fronts
+pub mod Cuts
+pub mod Determined
+pub mod Digits
+pub mod IntegerConstants
+pub mod Comments
+pub mod Tested

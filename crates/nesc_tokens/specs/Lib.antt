@@ -1,0 +1,7 @@
+pub mod CodePoints
+pub mod Splices
+pub mod Spelling
+pub mod Longest
+pub mod Lexes
+pub mod Begins
+pub mod Rows

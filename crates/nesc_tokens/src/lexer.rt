@@ -1,0 +1,115 @@
+//! Lexing: the tokens of a text, or the first place at which it is refused.
+
+ghost use Rattle.std.specs.Prelude.{◌≡◌, ◌<◌, ◌+◌, ◌^◌, ◌++◌, drop, length, IfOk, IfErr, OnOk, map, ◌==◌};
+ghost use Rattle.std.specs.List.{list_any};
+ghost use Rattle.std.specs.Prelude.{ℕ, List as ListOf};
+ghost use Rattle.nm_base.specs.declared.token.Token.{Token as TokenOf};
+ghost use Rattle.nm_base.specs.declared.refusal.Refusal.{Refusal as RefusalOf};
+ghost use Rattle.nesc_tokens.specs.Lexes.{Fails, IsRefused, Lexes, bytes_of, first_behind, tokens_of_piece};
+ghost use Rattle.nesc_tokens.specs.Begins.{Begins};
+ghost use Rattle.nesc_tokens.specs.CodePoints.{ends_line};
+
+use crate::pieces::{Front, Sort, front_of};
+use crate::splice::{SourceByte, source_bytes};
+use nm_base::{Fault, Name, NoMemory, Pos, Refusal, Token};
+use std::alloc::Global;
+
+fn bytes_of(alloc: Global, source: &[SourceByte]) -> Result<Vec<u8>, NoMemory>
+    ensures { IfOk result (λ v. v.items ≡ bytes_of source.now) }
+{
+    Ok(source.iter().map(|s| s.byte).collect(alloc)?)
+}
+
+fn place(file: u32, here: &SourceByte) -> Pos
+    ensures { result ≡ record { file = file; line = here.now.line; col = here.now.col } }
+{
+    Pos {
+        file,
+        line: here.line,
+        col: here.col,
+    }
+}
+
+// What stands at a place.
+fn front_at(bytes: &[u8], at: usize) -> Front
+    requires { at < length bytes.now }
+    ensures { Begins result (drop at bytes.now) }
+{
+    front_of(&bytes[at..])
+}
+
+// Whether an end of line is among the bytes.
+fn has_line_end(text: &[u8]) -> bool
+    ensures { result ≡ list_any ends_line text.now }
+{
+    text.iter().any(|b| *b == b'\n')
+}
+
+// Whether a token behind this piece is the first of its line.
+fn first_behind(sort: Sort, text: &[u8], first: bool) -> bool
+    ensures { result ≡ first_behind sort text.now first }
+{
+    match sort {
+        Sort::WhiteSpace => first || has_line_end(text),
+        Sort::LineComment | Sort::BlockComment => first,
+        Sort::Lexeme(_) => false,
+    }
+}
+
+// Appends the token of a piece, where it has one.
+fn push_token(
+    alloc: Global,
+    tokens: &mut Vec<Token>,
+    sort: Sort,
+    text: &[u8],
+    pos: Pos,
+    first: bool,
+) -> Result<(), NoMemory>
+    ensures { OnOk result (tokens.new.items ≡ tokens.old.items ++ tokens_of_piece sort text.now pos first) }
+{
+    if let Sort::Lexeme(kind) = sort {
+        let text = Name::new(alloc, text)?;
+        tokens.push(Token {
+            kind,
+            text,
+            pos,
+            first,
+        })?;
+    }
+    Ok(())
+}
+
+/// The tokens of a text, each the longest spelling at its place.
+pub fn lex(alloc: Global, file: u32, text: &[u8]) -> Result<Vec<Token>, Fault>
+    requires { length text.now + 1 < 2 ^ 32 }
+    ensures tokens { IfOk result (λ v. Lexes file text.now v.items) }
+    // The first place at which it is refused.
+    ensures refused { IfErr result (λ e. Fails file text.now e) }
+{
+    let source = source_bytes(alloc, text)?;
+    let bytes = bytes_of(alloc, &source)?;
+    let mut tokens = Vec::new(alloc);
+    let mut first = true;
+    let mut at = 0;
+    while at < source.len() {
+        let pos = place(file, &source[at]);
+        match front_at(&bytes, at) {
+            Front::Piece(sort, n) => {
+                let text = &bytes[at..at + n];
+                push_token(alloc, &mut tokens, sort, text, pos, first)?;
+                first = first_behind(sort, text, first);
+                at += n;
+            }
+            Front::OpenComment => return Err(Fault::Refused(Refusal::OpenComment(pos))),
+            Front::BadByte => return Err(Fault::Refused(Refusal::BadChar(pos))),
+        }
+    }
+    Ok(tokens)
+}
+
+/// A text has one list of tokens at most, and is not refused where it has one; and it is refused in one way at most.
+pub fn one_lexing()
+    ensures one { (file : ℕ) (text : ListOf ℕ) (a b : ListOf TokenOf) → Lexes file text a → Lexes file text b → a ≡ b }
+    ensures not_refused { (file : ℕ) (text : ListOf ℕ) (a : ListOf TokenOf) (r : RefusalOf) → Lexes file text a → IsRefused file text r → ⊥ }
+    ensures one_refusal { (file : ℕ) (text : ListOf ℕ) (r s : RefusalOf) → IsRefused file text r → IsRefused file text s → r ≡ s }
+{}

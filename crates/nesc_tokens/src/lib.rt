@@ -1,0 +1,17 @@
+//! The tokens of nesC texts: line splices, separators, and the longest lexeme at each place.
+#![tactic(auto)]
+
+mod classes;
+mod lexer;
+mod literals;
+mod longest;
+mod numbers;
+mod pieces;
+mod rows;
+mod signs;
+mod splice;
+#[cfg(test)]
+mod tests;
+
+pub use lexer::{lex, one_lexing};
+pub use rows::worked_rows;
