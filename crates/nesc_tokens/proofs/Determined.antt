@@ -15,7 +15,8 @@ use Rattle.nesc_tokens.specs.CodePoints.{is_white_space}
 use Rattle.nesc_tokens.specs.Spelling.{spells, signs, is_one_of}
 use Rattle.nesc_tokens.specs.Longest.{kind_at}
 use Rattle.nesc_tokens.proofs.Comments.{opened_of, one_comment}
-use Rattle.nesc_tokens.proofs.Fronts.{not_both, one_of_all, kind_is, empty_is_none}
+use Rattle.nesc_tokens.proofs.Runs.{not_both, one_of_all}
+use Rattle.nesc_tokens.proofs.LexemeKinds.{kind_is, empty_is_none}
 use Rattle.std.proofs.lemmas.Bool.{cases_Bool, or_cases, or_parts, and_parts, eqb-true, not-true, cases_lt}
 use Rattle.nesc_tokens.specs.Lexes.{bytes_of, Stands, Piece, Divides, tokens_of, Lexes, begins, IsLongest, BeginsNone, BeginsOpen, Why, IsRefused}
 use Rattle.nm_base.specs.declared.refusal.Refusal.{Refusal}

@@ -7,7 +7,7 @@ use Rattle.std.proofs.lemmas.List.Sums.{prefix_len-le-length}
 use Rattle.std.proofs.lemmas.Bool.{cases_Bool, false_from_ne_true, leb-true, le-leb, and_parts, cases_lt}
 use Rattle.nesc_tokens.specs.Spelling.{suffixes, is_one_of, is_digits_and_suffix}
 use Rattle.nesc_tokens.specs.Longest.{IsSuffix, IsDigits}
-use Rattle.nesc_tokens.proofs.Fronts.{one_of_all}
+use Rattle.nesc_tokens.proofs.Runs.{one_of_all}
 
 prefix_take : (p : ℕ → Bool) (xs : List ℕ) (m : ℕ) → prefix_len p xs ≤ m → prefix_len p (take m xs) ≡ prefix_len p xs
 prefix_take p [] zero le = refl

@@ -7,7 +7,7 @@ use Rattle.nm_base.specs.declared.token.Kind.TheVariants.{Number}
 use Rattle.nesc_tokens.specs.CodePoints.{is_octal_digit, is_nonzero_digit}
 use Rattle.nesc_tokens.specs.Spelling.{is_number, is_octal, is_hexadecimal, is_digits_and_suffix, suffixes}
 use Rattle.nesc_tokens.specs.Longest.{IsDigits, IsLongestOf, begins_hexadecimal, kind_at}
-use Rattle.nesc_tokens.proofs.Fronts.{digit_of}
+use Rattle.nesc_tokens.proofs.LexemeKinds.{digit_of}
 
 empty_number : is_number [] ≡ false
 empty_number = refl

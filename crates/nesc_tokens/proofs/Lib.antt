@@ -2,7 +2,9 @@ pub mod Runs
 pub mod Splicing
 pub mod Texts
 pub mod Quoted
-pub mod Fronts
+pub mod LexemeKinds
+pub mod WordFronts
+pub mod SignFronts
 pub mod Cuts
 pub mod Determined
 pub mod Digits

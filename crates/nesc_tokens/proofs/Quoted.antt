@@ -71,7 +71,7 @@ text_none bytes xs n is run open_ m le =
           let within : nat_lt (n + 1) (length bytes) ≡ true = lt-ltb (n + 1) (length bytes) (omega arith) in
           let no-quote : (slice_index bytes (n + 1) == 34) ≡ false = rw within at open_ in
           and_left _ _ (ap (λ (k : ℕ). slice_index bytes (k + 1) == 34) same ∙ no-quote)
-      | inr (inl before) ↦ ap (λ (b : ℕ). b == 34 && is_text_body (take j (drop 1 bytes))) (behind_first bytes j) ∙ run-here.0.open_ j before
+      | inr (inl before) ↦ ap (λ (b : ℕ). b == 34 && is_text_body (take j (drop 1 bytes))) (behind_first bytes j) ∙ run-here.0.unclosed j before
       | inr (inr behind) ↦ and_right _ _ (behind_run n j (drop 1 bytes) behind (omega (arith, length-drop 1 bytes)) run-here)
     ])
   where

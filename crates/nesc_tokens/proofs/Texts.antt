@@ -48,14 +48,14 @@ plain_item : (a : ℕ) (bs : List ℕ) → is_plain 34 a ≡ true → IsTextItem
 plain_item a bs plain = record {
   within = omega arith;
   neutral = λ k. let next : 1 + k ≡ suc k = omega arith in rw next (body_plain a (take k bs) plain);
-  open_ = λ k lt. let first : k ≡ 0 = omega arith in rw first (and_left _ _ (plain_no_quote a plain));
+  unclosed = λ k lt. let first : k ≡ 0 = omega arith in rw first (and_left _ _ (plain_no_quote a plain));
 }
 
 simple_item : (b : ℕ) (bs : List ℕ) → is_escape (b ∷ []) ≡ true → IsTextItem 2 (92 ∷ b ∷ bs)
 simple_item b bs escape = record {
   within = omega arith;
   neutral = λ k. let next : 2 + k ≡ suc (suc k) = omega arith in rw next (body_simple b (take k bs) escape);
-  open_ = λ k lt. below_two b bs k lt;
+  unclosed = λ k lt. below_two b bs k lt;
 }
   where
     below_two : (b : ℕ) (bs : List ℕ) (k : ℕ) → k < 2 → (slice_index (92 ∷ b ∷ bs) k == 34 && is_text_body (take k (92 ∷ b ∷ bs))) ≡ false
@@ -73,7 +73,7 @@ hexadecimal_item : (b c : ℕ) (bs : List ℕ) → is_escape (b ∷ []) ≡ fals
 hexadecimal_item b c bs short long = record {
   within = omega arith;
   neutral = λ k. let next : 3 + k ≡ suc (suc (suc k)) = omega arith in rw next (body_hexadecimal b c (take k bs) short long);
-  open_ = λ k lt. below_three b c bs k short lt;
+  unclosed = λ k lt. below_three b c bs k short lt;
 }
 
 -- ---- the same, by the tests of the code
@@ -151,7 +151,7 @@ pub run_none : (l : List ℕ) → IsTextItem 0 l
 run_none l = record {
   within = omega arith;
   neutral = λ k. let same : 0 + k ≡ k = omega arith in rw same refl;
-  open_ = λ k lt. absurd (omega arith);
+  unclosed = λ k lt. absurd (omega arith);
 }
 
 item_at : (n : ℕ) (l : List ℕ) → 0 < n → TextItem n l → IsTextItem n l
@@ -170,11 +170,11 @@ run_more at n l some run item =
       neutral = λ k.
           let regroup : at + n + k ≡ at + (n + k) = omega arith in
           ap (λ (i : ℕ). is_text_body (take i l)) regroup ∙ run.neutral (n + k) ∙ more.neutral k ∙ ap (λ (r : List ℕ). is_text_body (take k r)) (drop-drop n at l);
-      open_ = λ k lt. elim (cases_lt k at) [
-        | inl before ↦ run.open_ k before
+      unclosed = λ k lt. elim (cases_lt k at) [
+        | inl before ↦ run.unclosed k before
         | inr behind ↦
             let place : k ≡ at + (k - at) = omega arith in
-            let inner = more.open_ (k - at) (omega arith) in
+            let inner = more.unclosed (k - at) (omega arith) in
             ap (λ (i : ℕ). slice_index l i == 34 && is_text_body (take i l)) place
             ∙ ap (λ (b : Bool). slice_index l (at + (k - at)) == 34 && b) (run.neutral (k - at))
             ∙ ap (λ (b : ℕ). b == 34 && is_text_body (take (k - at) (drop at l))) (sym (get_or-drop at l (k - at) 0))

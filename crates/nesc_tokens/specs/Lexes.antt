@@ -33,7 +33,7 @@ ends text bytes = ends_with nat_eq bytes text
 abbrev pub is_closed_comment : List ℕ → Bool
 is_closed_comment bytes = nat_le 4 (length bytes) && begins (codes "/*") bytes && ends (codes "*/") bytes
 
--- the first n bytes are a block comment: it ends where it can first end
+-- the first n bytes are a block comment: the shortest front that is one
 pub record IsBlockComment (n : ℕ) (bytes : List ℕ) : Type 0 where
   pub within : n ≤ length bytes
   pub closed : is_closed_comment (take n bytes) ≡ true
@@ -63,7 +63,9 @@ pub record Piece : Type 0 where
 -- the pieces one after the other, and then the rest
 abbrev pub Divides : List Piece → List SourceByte → List SourceByte → Type 0
 Divides [] source rest = source ≡ rest
-Divides (p ∷ ps) source rest = (after : List SourceByte) × (source ≡ p.source ++ after) × Stands p.sort (length p.source) (bytes_of source) × Divides ps after rest
+Divides (p ∷ ps) source rest =
+    (after : List SourceByte) × (source ≡ p.source ++ after) × Stands p.sort (length p.source) (bytes_of source)
+    × Divides ps after rest
 
 -- the place of the first byte
 abbrev pub place_of : ℕ → List SourceByte → Pos
@@ -75,7 +77,8 @@ abbrev pub tokens_of_piece : Sort → List ℕ → Pos → Bool → List Token
 tokens_of_piece (Lexeme kind) text pos first = record { kind = kind; text = text; pos = pos; first = first } ∷ []
 tokens_of_piece _ text pos first = []
 
--- whether a token behind the piece is the first of its line; a line feed in a comment begins no line (C99 5.1.1.2, phase 3)
+-- whether a token behind the piece is the first of its line; a line feed in a comment begins no line: a comment is one
+-- space (C99 5.1.1.2, phase 3)
 abbrev pub first_behind : Sort → List ℕ → Bool → Bool
 first_behind WhiteSpace text first = first || list_any ends_line text
 first_behind LineComment text first = first
@@ -85,7 +88,9 @@ first_behind (Lexeme kind) text first = false
 -- the tokens of the pieces, where `first` says that none stands before them on their line
 abbrev pub tokens_of : ℕ → Bool → List Piece → List Token
 tokens_of file first [] = []
-tokens_of file first (p ∷ ps) = tokens_of_piece p.sort (bytes_of p.source) (place_of file p.source) first ++ tokens_of file (first_behind p.sort (bytes_of p.source) first) ps
+tokens_of file first (p ∷ ps) =
+    tokens_of_piece p.sort (bytes_of p.source) (place_of file p.source) first
+    ++ tokens_of file (first_behind p.sort (bytes_of p.source) first) ps
 
 -- ---- what lexing gives
 

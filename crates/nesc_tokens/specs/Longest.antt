@@ -42,11 +42,12 @@ pub record IsDigits (digit : ℕ → Bool) (n : ℕ) (bytes : List ℕ) : Type 0
   pub spelled : is_digits_and_suffix digit (take n bytes) ≡ true
   pub longest : (m : ℕ) → n < m → m ≤ length bytes → is_digits_and_suffix digit (take m bytes) ≡ false
 
--- the first n bytes of a text literal's body are a byte or an escape: the literal goes on behind them, and ends nowhere in them
+-- the first n bytes of a text literal's body are a byte or an escape: the body goes on behind them, and the literal ends at
+-- none of them
 pub record IsTextItem (n : ℕ) (bytes : List ℕ) : Type 0 where
   pub within : n ≤ length bytes
   pub neutral : (k : ℕ) → is_text_body (take (n + k) bytes) ≡ is_text_body (take k (drop n bytes))
-  pub open_ : (k : ℕ) → k < n → (slice_index bytes k == quotation_mark && is_text_body (take k bytes)) ≡ false
+  pub unclosed : (k : ℕ) → k < n → (slice_index bytes k == quotation_mark && is_text_body (take k bytes)) ≡ false
 
 -- no byte of a text literal's body and no escape stands at the front
 abbrev pub NoTextItem : List ℕ → Type 0
@@ -60,7 +61,8 @@ TextItem (suc n) bytes = IsTextItem (suc n) bytes
 -- `0x` and a hexadecimal digit stand at the front
 abbrev pub begins_hexadecimal : List ℕ → Bool
 begins_hexadecimal bytes =
-    nat_le 3 (length bytes) && slice_index bytes 0 == digit_0 && slice_index bytes 1 == letter_x && is_ascii_hexdigit (slice_index bytes 2)
+    nat_le 3 (length bytes) && slice_index bytes 0 == digit_0 && slice_index bytes 1 == letter_x
+    && is_ascii_hexdigit (slice_index bytes 2)
 
 -- the longest run of bytes and escapes of a text literal's body at the front
 abbrev pub IsTextRun : ℕ → List ℕ → Type 0

@@ -19,7 +19,8 @@ later kind text line col = record { kind = kind; text = text; pos = at line col;
 
 pub record WorkedRows : Type 0 where
   pub nothing : Lexes 0 [] []
-  pub longest_sign : Lexes 0 (codes "a+++b") (first Word (codes "a") 1 1 ∷ later Sign (codes "++") 1 2 ∷ later Sign (codes "+") 1 4 ∷ later Word (codes "b") 1 5 ∷ [])
+  pub longest_sign :
+      Lexes 0 (codes "a+++b") (first Word (codes "a") 1 1 ∷ later Sign (codes "++") 1 2 ∷ later Sign (codes "+") 1 4 ∷ later Word (codes "b") 1 5 ∷ [])
   pub arrow : Lexes 0 (codes "a<-b") (first Word (codes "a") 1 1 ∷ later Sign (codes "<-") 1 2 ∷ later Word (codes "b") 1 4 ∷ [])
   pub splice_in_word : Lexes 0 (codes "a\\\nb c") (first Word (codes "ab") 1 1 ∷ later Word (codes "c") 2 3 ∷ [])
   pub line_comment : Lexes 0 (codes "a//b\n c") (first Word (codes "a") 1 1 ∷ first Word (codes "c") 2 2 ∷ [])

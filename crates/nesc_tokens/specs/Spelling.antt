@@ -25,8 +25,8 @@ is_word (b ∷ bs) = is_letter b && list_all is_word_byte bs
 -- U and L in any case and order, each at most once
 unfoldable pub suffixes : List (List ℕ)
 suffixes =
-    [] ∷ codes "u" ∷ codes "U" ∷ codes "l" ∷ codes "L" ∷ codes "ul" ∷ codes "uL" ∷ codes "Ul" ∷ codes "UL" ∷ codes "lu" ∷ codes "lU"
-    ∷ codes "Lu" ∷ codes "LU" ∷ []
+    [] ∷ codes "u" ∷ codes "U" ∷ codes "l" ∷ codes "L" ∷ codes "ul" ∷ codes "uL" ∷ codes "Ul" ∷ codes "UL" ∷ codes "lu"
+    ∷ codes "lU" ∷ codes "Lu" ∷ codes "LU" ∷ []
 
 -- digits, and then a suffix
 abbrev pub is_digits_and_suffix : (ℕ → Bool) → List ℕ → Bool
@@ -41,13 +41,15 @@ is_octal [] = false
 is_octal (b ∷ bs) = b == digit_0 && is_digits_and_suffix is_octal_digit bs
 
 abbrev pub is_hexadecimal : List ℕ → Bool
-is_hexadecimal (z ∷ x ∷ d ∷ bs) = z == digit_0 && x == letter_x && is_ascii_hexdigit d && is_digits_and_suffix is_ascii_hexdigit bs
+is_hexadecimal (z ∷ x ∷ d ∷ bs) =
+    z == digit_0 && x == letter_x && is_ascii_hexdigit d && is_digits_and_suffix is_ascii_hexdigit bs
 is_hexadecimal _ = false
 
 abbrev pub is_number : List ℕ → Bool
 is_number bytes = is_decimal bytes || is_octal bytes || is_hexadecimal bytes
 
--- ---- literals (C99 6.4.4.4, 6.4.5; own: fewer escapes, at most two hexadecimal digits, and one byte or escape in a character)
+-- ---- literals (C99 6.4.4.4, 6.4.5; own: fewer escapes, at most two hexadecimal digits, one byte or escape in a character,
+-- bytes above 127 in texts only)
 
 -- the escapes of one byte behind the backslash, but for digits
 unfoldable pub simple_escapes : List (List ℕ)
@@ -57,7 +59,8 @@ simple_escapes = codes "n" ∷ codes "t" ∷ codes "r" ∷ codes "\\" ∷ codes 
 abbrev pub is_escape : List ℕ → Bool
 is_escape (a ∷ []) = is_one_of simple_escapes (a ∷ []) || is_octal_digit a
 is_escape (a ∷ b ∷ []) = (is_octal_digit a && is_octal_digit b) || (a == letter_x && is_ascii_hexdigit b)
-is_escape (a ∷ b ∷ c ∷ []) = (is_octal_digit a && is_octal_digit b && is_octal_digit c) || (a == letter_x && is_ascii_hexdigit b && is_ascii_hexdigit c)
+is_escape (a ∷ b ∷ c ∷ []) =
+    (is_octal_digit a && is_octal_digit b && is_octal_digit c) || (a == letter_x && is_ascii_hexdigit b && is_ascii_hexdigit c)
 is_escape _ = false
 
 -- between two quotes stands what passes the test
@@ -93,12 +96,12 @@ is_text_body (a ∷ b ∷ c ∷ bs) =
 
 unfoldable pub signs : List (List ℕ)
 signs =
-    codes "->" ∷ codes "<-" ∷ codes "++" ∷ codes "--" ∷ codes "<<" ∷ codes ">>" ∷ codes "<=" ∷ codes ">=" ∷ codes "==" ∷ codes "!="
-    ∷ codes "&&" ∷ codes "||" ∷ codes "+=" ∷ codes "-=" ∷ codes "*=" ∷ codes "/=" ∷ codes "%=" ∷ codes "&=" ∷ codes "|=" ∷ codes "^="
-    ∷ codes "<<=" ∷ codes ">>=" ∷ codes "..."
-    ∷ codes "{" ∷ codes "}" ∷ codes "(" ∷ codes ")" ∷ codes "[" ∷ codes "]" ∷ codes ";" ∷ codes "," ∷ codes "." ∷ codes "<" ∷ codes ">"
-    ∷ codes "=" ∷ codes "+" ∷ codes "-" ∷ codes "*" ∷ codes "/" ∷ codes "%" ∷ codes "&" ∷ codes "|" ∷ codes "^" ∷ codes "~" ∷ codes "!"
-    ∷ codes "?" ∷ codes ":" ∷ codes "@" ∷ codes "#" ∷ []
+    codes "->" ∷ codes "<-" ∷ codes "++" ∷ codes "--" ∷ codes "<<" ∷ codes ">>" ∷ codes "<=" ∷ codes ">=" ∷ codes "=="
+    ∷ codes "!=" ∷ codes "&&" ∷ codes "||" ∷ codes "+=" ∷ codes "-=" ∷ codes "*=" ∷ codes "/=" ∷ codes "%=" ∷ codes "&="
+    ∷ codes "|=" ∷ codes "^=" ∷ codes "<<=" ∷ codes ">>=" ∷ codes "..."
+    ∷ codes "{" ∷ codes "}" ∷ codes "(" ∷ codes ")" ∷ codes "[" ∷ codes "]" ∷ codes ";" ∷ codes "," ∷ codes "." ∷ codes "<"
+    ∷ codes ">" ∷ codes "=" ∷ codes "+" ∷ codes "-" ∷ codes "*" ∷ codes "/" ∷ codes "%" ∷ codes "&" ∷ codes "|" ∷ codes "^"
+    ∷ codes "~" ∷ codes "!" ∷ codes "?" ∷ codes ":" ∷ codes "@" ∷ codes "#" ∷ []
 
 -- ---- all of them
 

@@ -1,4 +1,5 @@
--- A text as it is read: its bytes with their places, without the line splices (C99 5.1.1.2, phase 2; own: also before CR LF).
+-- A text as it is read: its bytes with their places, without the line splices (C99 5.1.1.2, phase 2; own: also before
+-- CR LF). Lines and columns count from 1, in bytes of the file.
 use Rattle.std.specs.Prelude.{ℕ, ◌+◌, Bool, true, false, ◌&&◌, List, [], ◌∷◌, cond, ◌==◌}
 use Rattle.nesc_tokens.specs.declared.splice.SourceByte.{SourceByte}
 use Rattle.nesc_tokens.specs.CodePoints.{backslash, carriage_return, line_feed}
@@ -13,8 +14,10 @@ col_behind byte col = cond (byte == line_feed) 1 (col + 1)
 -- each byte with its place, from a line and a column on
 abbrev pub placed : ℕ → ℕ → List ℕ → List SourceByte
 placed line col [] = []
-placed line col (b ∷ bs) = record { byte = b; line = line; col = col } ∷ placed (line_behind b line) (col_behind b col) bs
+placed line col (b ∷ bs) =
+    record { byte = b; line = line; col = col } ∷ placed (line_behind b line) (col_behind b col) bs
 
+-- a backslash and LF, or CR LF
 abbrev pub is_short_splice : ℕ → ℕ → Bool
 is_short_splice a b = a == backslash && b == line_feed
 

@@ -79,11 +79,12 @@ fn push_token(
     Ok(())
 }
 
-/// The tokens of a text, each the longest spelling at its place.
+/// The tokens of a text, each the longest lexeme at its place, with places in the file of this number.
+/// Refuses with `OpenComment` the `/*` of a comment without an end, and with `BadChar` the first place where no separator
+/// and no token begins, as the first byte of a literal without an end.
 pub fn lex(alloc: Global, file: u32, text: &[u8]) -> Result<Vec<Token>, Fault>
     requires { length text.now + 1 < 2 ^ 32 }
     ensures tokens { IfOk result (λ v. Lexes file text.now v.items) }
-    // The first place at which it is refused.
     ensures refused { IfErr result (λ e. Fails file text.now e) }
 {
     let source = source_bytes(alloc, text)?;
@@ -110,6 +111,8 @@ pub fn lex(alloc: Global, file: u32, text: &[u8]) -> Result<Vec<Token>, Fault>
 /// A text has one list of tokens at most, and is not refused where it has one; and it is refused in one way at most.
 pub fn one_lexing()
     ensures one { (file : ℕ) (text : ListOf ℕ) (a b : ListOf TokenOf) → Lexes file text a → Lexes file text b → a ≡ b }
-    ensures not_refused { (file : ℕ) (text : ListOf ℕ) (a : ListOf TokenOf) (r : RefusalOf) → Lexes file text a → IsRefused file text r → ⊥ }
-    ensures one_refusal { (file : ℕ) (text : ListOf ℕ) (r s : RefusalOf) → IsRefused file text r → IsRefused file text s → r ≡ s }
+    ensures not_refused { (file : ℕ) (text : ListOf ℕ) (a : ListOf TokenOf) (r : RefusalOf) → Lexes file text a
+        → IsRefused file text r → ⊥ }
+    ensures one_refusal { (file : ℕ) (text : ListOf ℕ) (r s : RefusalOf) → IsRefused file text r → IsRefused file text s
+        → r ≡ s }
 {}

@@ -73,8 +73,8 @@ fn is_escape_of(bytes: &[u8], n: usize) -> bool
     bytes.len() >= n && is_escape(&bytes[..n])
 }
 
-// How many bytes the byte or the escape of a text literal at the front has, and 0 where there is none. The second and the
-// third octal digit of an escape, and its second hexadecimal digit, count as bytes of their own.
+// How many bytes the byte or the escape of a text literal at the front has, and 0 where there is none. A second or third
+// octal digit and a second hexadecimal digit of an escape count as bytes of their own.
 fn text_item(bytes: &[u8]) -> usize
     ensures { TextItem result bytes.now }
 {

@@ -57,7 +57,8 @@ fn longest_of(kind: Kind, bytes: &[u8]) -> Option<usize>
 pub fn longest(bytes: &[u8]) -> Option<(Kind, usize)>
     requires { 0 < length bytes.now }
     ensures found { IfSome result (λ f. (0 < f.1) × IsLongest f.0 f.1 bytes.now) }
-    ensures none { IfNone result ((kind : KindOf) (n : ℕ) → n ≤ length bytes.now → spells kind (take n bytes.now) ≡ false) }
+    ensures none { IfNone result ((kind : KindOf) (n : ℕ) → n ≤ length bytes.now
+        → spells kind (take n bytes.now) ≡ false) }
 {
     let kind = kind_at(bytes[0]);
     match longest_of(kind, bytes) {

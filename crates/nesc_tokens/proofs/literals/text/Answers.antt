@@ -1,6 +1,6 @@
 use Rattle.std.proofs.Common.{sym, ◌∙◌, slice_index}
 use Rattle.std.proofs.lemmas.List.{take_rest}
-use Rattle.nesc_tokens.proofs.Fronts.{quote_of}
+use Rattle.nesc_tokens.proofs.LexemeKinds.{quote_of}
 use Rattle.nesc_tokens.proofs.Quoted.{text_found, text_none}
 use Rattle.nesc_tokens.proofs.literals.text.Goals as goal
 

@@ -1,5 +1,5 @@
 use Rattle.std.proofs.Common.{sym}
-use Rattle.nesc_tokens.proofs.Fronts.{longest_found, none_alone}
+use Rattle.nesc_tokens.proofs.LexemeKinds.{longest_found, none_alone}
 use Rattle.nesc_tokens.proofs.longest.longest.Goals as goal
 
 pub returns-in-Some-clause-found : goal.returns-in-Some-clause-found

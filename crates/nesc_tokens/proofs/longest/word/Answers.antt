@@ -1,4 +1,4 @@
-use Rattle.nesc_tokens.proofs.Fronts.{word_at}
+use Rattle.nesc_tokens.proofs.WordFronts.{word_at}
 use Rattle.nesc_tokens.proofs.longest.word.Goals as goal
 
 pub returns : goal.returns

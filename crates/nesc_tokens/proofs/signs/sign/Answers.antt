@@ -1,4 +1,4 @@
-use Rattle.nesc_tokens.proofs.Fronts.{sign_of_three, sign_of_two, sign_of_one, no_sign}
+use Rattle.nesc_tokens.proofs.SignFronts.{sign_of_three, sign_of_two, sign_of_one, no_sign}
 use Rattle.std.proofs.Common.{sym, ◌∙◌}
 use Rattle.nesc_tokens.proofs.signs.sign.Goals as goal
 
