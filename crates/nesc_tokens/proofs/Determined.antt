@@ -83,7 +83,7 @@ no_blank_spelled kind b bs e = elim (cases_Bool (is_white_space b)) [
       not-true (is_white_space b) (sign_no_white_space b bs as-sign)
 ]
 
-spelled_some : (kind : Kind) (n : ℕ) (bytes : List ℕ) → spells kind (take n bytes) ≡ true → (0 < n) × (list_any is_white_space (take 1 bytes) ≡ false)
+pub spelled_some : (kind : Kind) (n : ℕ) (bytes : List ℕ) → spells kind (take n bytes) ≡ true → (0 < n) × (list_any is_white_space (take 1 bytes) ≡ false)
 spelled_some kind zero bytes e = not_both (spells kind []) e (empty_is_none kind)
 spelled_some kind (suc n) [] e = not_both (spells kind []) e (empty_is_none kind)
 spelled_some kind (suc n) (b ∷ bs) e = (omega arith, rw (no_blank_spelled kind b (take n bs) e) refl)

@@ -11,3 +11,4 @@ pub mod Digits
 pub mod IntegerConstants
 pub mod Comments
 pub mod Tested
+pub mod Exhaustive

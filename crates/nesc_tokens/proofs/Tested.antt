@@ -18,7 +18,7 @@ use Rattle.nesc_tokens.specs.Lexes.{bytes_of, begins, begins_comment, is_closed_
 
 -- ---- tests
 
-abbrev is_spelled : List ℕ → Bool
+abbrev pub is_spelled : List ℕ → Bool
 is_spelled bytes = spells Word bytes || spells Number bytes || spells Char bytes || spells Text bytes || spells Sign bytes
 
 -- none of the fronts of n + 1 to n + count bytes passes
@@ -60,7 +60,7 @@ all_none test n (suc count) bytes none m lt le =
       | inr (inr more) ↦ absurd (omega arith)
     ]
 
-no_kind : (kind : Kind) (bytes : List ℕ) → is_spelled bytes ≡ false → spells kind bytes ≡ false
+pub no_kind : (kind : Kind) (bytes : List ℕ) → is_spelled bytes ≡ false → spells kind bytes ≡ false
 no_kind Word bytes e = (or_parts _ _ (or_parts _ _ (or_parts _ _ (or_parts _ _ e).0).0).0).0
 no_kind Number bytes e = (or_parts _ _ (or_parts _ _ (or_parts _ _ (or_parts _ _ e).0).0).0).1
 no_kind Char bytes e = (or_parts _ _ (or_parts _ _ (or_parts _ _ e).0).0).1

@@ -3,7 +3,7 @@
 ghost use Rattle.std.specs.Prelude.{◌≡◌, ◌≤◌, length, not};
 ghost use Rattle.std.specs.List.{prefix_len};
 ghost use Rattle.std.specs.Char.{is_ascii_digit, is_ascii_hexdigit};
-ghost use Rattle.nesc_tokens.specs.CodePoints.{ends_line, is_letter, is_nonzero_digit, is_octal_digit, is_plain, is_white_space, is_word_byte};
+ghost use Rattle.nesc_tokens.specs.CodePoints.{ends_line, is_letter, is_octal_digit, is_plain, is_white_space, is_word_byte};
 
 pub fn is_letter(b: u8) -> bool
     ensures { result ≡ is_letter b }

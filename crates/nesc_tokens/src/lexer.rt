@@ -1,6 +1,6 @@
 //! Lexing: the tokens of a text, or the first place at which it is refused.
 
-ghost use Rattle.std.specs.Prelude.{◌≡◌, ◌<◌, ◌+◌, ◌^◌, ◌++◌, drop, length, IfOk, IfErr, OnOk, map, ◌==◌};
+ghost use Rattle.std.specs.Prelude.{◌≡◌, ◌⊎◌, ◌<◌, ◌+◌, ◌^◌, ◌++◌, drop, length, IfOk, IfErr, OnOk, map, ◌==◌};
 ghost use Rattle.std.specs.List.{list_any};
 ghost use Rattle.std.specs.Prelude.{ℕ, List as ListOf};
 ghost use Rattle.nm_base.specs.declared.token.Token.{Token as TokenOf};
@@ -108,8 +108,11 @@ pub fn lex(alloc: Global, file: u32, text: &[u8]) -> Result<Vec<Token>, Fault>
     Ok(tokens)
 }
 
-/// A text has one list of tokens at most, and is not refused where it has one; and it is refused in one way at most.
+/// A text has tokens or is refused. It has one list of tokens at most, and is not refused where it has one; and it is
+/// refused in one way at most.
 pub fn one_lexing()
+    ensures some { (file : ℕ) (text : ListOf ℕ) → ((tokens : ListOf TokenOf) × Lexes file text tokens)
+        ⊎ ((r : RefusalOf) × IsRefused file text r) }
     ensures one { (file : ℕ) (text : ListOf ℕ) (a b : ListOf TokenOf) → Lexes file text a → Lexes file text b → a ≡ b }
     ensures not_refused { (file : ℕ) (text : ListOf ℕ) (a : ListOf TokenOf) (r : RefusalOf) → Lexes file text a
         → IsRefused file text r → ⊥ }
