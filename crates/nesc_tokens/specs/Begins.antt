@@ -1,4 +1,4 @@
--- What stands at the front of some bytes.
+-- What stands at the front of some bytes, as the lexer finds it (own).
 use Rattle.std.specs.Prelude.{ℕ, ◌<◌, ◌≤◌, ◌≡◌, false, Option, Some, None, List, length, take}
 use Rattle.nesc_tokens.specs.declared.pieces.Front.{Front}
 use Rattle.nesc_tokens.specs.declared.pieces.Front.TheVariants.{Piece, OpenComment, BadByte}

@@ -1,4 +1,4 @@
--- The longest spelling of one kind at the front of some bytes.
+-- The longest spelling of one kind at the front of some bytes: what the parts of the lexer find (own).
 use Rattle.std.specs.Prelude.{◌≡◌, ℕ, zero, suc, ◌+◌, ◌<◌, ◌≤◌, Bool, true, false, ◌&&◌, ◌==◌, nat_le, cond, Option, Some, None, List, length, take, drop, slice_index}
 use Rattle.std.specs.Char.{is_ascii_digit, is_ascii_hexdigit}
 use Rattle.nm_base.specs.declared.token.Kind.{Kind}

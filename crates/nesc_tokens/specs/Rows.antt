@@ -20,11 +20,15 @@ later kind text line col = record { kind = kind; text = text; pos = at line col;
 pub record WorkedRows : Type 0 where
   pub nothing : Lexes 0 [] []
   pub longest_sign :
-      Lexes 0 (codes "a+++b") (first Word (codes "a") 1 1 ∷ later Sign (codes "++") 1 2 ∷ later Sign (codes "+") 1 4 ∷ later Word (codes "b") 1 5 ∷ [])
-  pub arrow : Lexes 0 (codes "a<-b") (first Word (codes "a") 1 1 ∷ later Sign (codes "<-") 1 2 ∷ later Word (codes "b") 1 4 ∷ [])
+      Lexes 0 (codes "a+++b")
+      (first Word (codes "a") 1 1 ∷ later Sign (codes "++") 1 2 ∷ later Sign (codes "+") 1 4 ∷ later Word (codes "b") 1 5 ∷ [])
+  pub arrow :
+      Lexes 0 (codes "a<-b") (first Word (codes "a") 1 1 ∷ later Sign (codes "<-") 1 2 ∷ later Word (codes "b") 1 4 ∷ [])
   pub splice_in_word : Lexes 0 (codes "a\\\nb c") (first Word (codes "ab") 1 1 ∷ later Word (codes "c") 2 3 ∷ [])
   pub line_comment : Lexes 0 (codes "a//b\n c") (first Word (codes "a") 1 1 ∷ first Word (codes "c") 2 2 ∷ [])
-  pub block_comment : Lexes 0 (codes "a/*\n**/b\nc") (first Word (codes "a") 1 1 ∷ later Word (codes "b") 2 4 ∷ first Word (codes "c") 3 1 ∷ [])
+  pub block_comment :
+      Lexes 0 (codes "a/*\n**/b\nc")
+      (first Word (codes "a") 1 1 ∷ later Word (codes "b") 2 4 ∷ first Word (codes "c") 3 1 ∷ [])
   pub hexadecimal : Lexes 0 (codes "0x1fuL") (first Number (codes "0x1fuL") 1 1 ∷ [])
   pub upper_case_x : Lexes 0 (codes "0X1") (first Number (codes "0") 1 1 ∷ later Word (codes "X1") 1 2 ∷ [])
   pub no_octal : Lexes 0 (codes "08") (first Number (codes "0") 1 1 ∷ later Number (codes "8") 1 2 ∷ [])
