@@ -4,6 +4,7 @@
 mod bus;
 mod cpu;
 mod execute;
+mod laws;
 mod memory;
 mod operate;
 mod place;
@@ -13,5 +14,6 @@ mod tests;
 
 pub use bus::Bus;
 pub use cpu::{Cpu, Stepped};
+pub use laws::{Alike, at_most_three_accesses, same_step};
 pub use memory::MemoryBus;
 pub use rows::worked_rows;
