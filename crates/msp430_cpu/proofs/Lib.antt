@@ -1,3 +1,4 @@
+pub mod Bits
 pub mod Counted
 pub mod Related
 pub mod RelatedMemory
