@@ -185,6 +185,13 @@ module _ (before : List Shown) where
   }
   ends (Stopped code) j = plain (Stopped code) refl j
 
+-- an acceptance is no access
+accepted_few : (s : Stepped) (j : Joined (Noted (Memory Bare))) → length j.bus.accesses ≤ 3 → length (accepted bare_bus s j).bus.accesses ≤ 3
+accepted_few Ran j few = few
+accepted_few Idle j few = few
+accepted_few (Entered v) j few = few
+accepted_few (Stopped code) j few = few
+
 pub shows : StepsShowAccesses
 shows j k agree none =
     let before = k.bus.ports.shown in
@@ -207,6 +214,7 @@ shows j k agree none =
     record {
       agree = subst (λ x. Agree x (exec board_bus k).after) (sym left.after) (subst (λ y. Agree (accepted bare_bus s.stepped s.after) y) (sym after) e.agree);
       stepped = left.stepped ∙ both.stepped ∙ sym right.stepped;
+      few = subst (λ (x : Joined (Noted (Memory Bare))). length x.bus.accesses ≤ 3) (sym left.after) (accepted_few s.stepped s.after both.bus.few);
       shown = ap (λ (x : Joined (Memory Outside)). x.bus.ports.shown) after ∙ e.events
           ∙ ap (λ (x : Joined (Noted (Memory Bare))). before ++ (events_of x.bus.accesses ++ entry_of s.stepped)) (sym left.after)
           ∙ ap (λ (x : Stepped). before ++ (events_of (exec bare_bus j).after.bus.accesses ++ entry_of x)) (sym left.stepped);

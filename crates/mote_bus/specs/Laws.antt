@@ -1,5 +1,5 @@
 -- What the accesses of a step show (own).
-use Rattle.std.specs.Prelude.{◌≡◌, List, [], ◌∷◌, ◌++◌}
+use Rattle.std.specs.Prelude.{◌≡◌, ◌≤◌, length, List, [], ◌∷◌, ◌++◌}
 use Rattle.mote_devices.specs.declared.shown.Shown.{Shown}
 use Rattle.mote_devices.specs.declared.shown.Shown.TheVariants.{Enter}
 use Rattle.mote_devices.specs.Outside.{Outside, board_ports}
@@ -27,6 +27,8 @@ entry_of _ = []
 pub record StepShows (j : Joined (Noted (Memory Bare))) (k : Joined (Memory Outside)) : Type 0 where
   pub agree : Agree (exec (noting (memory_bus bare_ports)) j).after (exec (memory_bus board_ports) k).after
   pub stepped : (exec (noting (memory_bus bare_ports)) j).stepped ≡ (exec (memory_bus board_ports) k).stepped
+  -- so none is lost
+  pub few : length (exec (noting (memory_bus bare_ports)) j).after.bus.accesses ≤ 3
   pub shown : (exec (memory_bus board_ports) k).after.bus.ports.shown
       ≡ k.bus.ports.shown ++ (events_of (exec (noting (memory_bus bare_ports)) j).after.bus.accesses ++ entry_of (exec (noting (memory_bus bare_ports)) j).stepped)
 
