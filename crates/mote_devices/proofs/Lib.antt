@@ -1,1 +1,3 @@
 pub mod EmptyBoard
+pub mod Locality
+pub mod Registers

@@ -3,9 +3,11 @@
 
 mod hex;
 mod image_text;
+mod loaded;
 mod trace;
 
 pub use image_text::push_image;
+pub use loaded::{Loaded, load_image};
 pub use trace::{End, Event};
 
 #[cfg(test)]

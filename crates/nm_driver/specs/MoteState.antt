@@ -13,7 +13,7 @@ use Rattle.nm_driver.specs.declared.mote.Mote.{Mote}
 
 -- the processor and what it is joined to
 abbrev pub joined_of : Mote → Joined (Memory Outside)
-joined_of m = record { cpu = m.cpu; bus = memory_of m.bus.ram.items m.bus.code.items m.bus.vectors (controller_kept m.bus.ports) }
+joined_of m = record { cpu = m.cpu; bus = memory_of m.bus.ram.items m.bus.code.items (controller_kept m.bus.ports) }
 
 -- without the events of the last step
 abbrev pub forgotten : Mote → Joined (Memory Outside)

@@ -14,7 +14,7 @@ ghost use Rattle.nm_driver.specs.MoteState.{Follows, joined_of, forgotten, new_e
 ghost use Rattle.msp430_cpu.specs.Cpu.{cpuoff};
 
 use mote_devices::{Controller, Shown};
-use mote_text::{End, Event};
+use mote_text::{End, Event, load_image};
 use msp_isa::Image;
 use msp430_cpu::{Bus, Cpu, MemoryBus, Stepped};
 use nm_base::NoMemory;
@@ -39,7 +39,8 @@ impl Mote {
     fn load(alloc: Global, image: &Image) -> Result<Mote, NoMemory>
         ensures { IfOk result (λ m. Follows m (at_reset (image_map image.now.code.items image.now.vectors) board_ports (outside_of empty_board))) }
     {
-        let bus = MemoryBus::load(alloc, image, Controller::new())?;
+        let loaded = load_image(alloc, image)?;
+        let bus = MemoryBus::load(alloc, loaded.bytes(), Controller::new())?;
         let cpu = Cpu::new(bus.fetch(0xFFFE));
         Ok(Mote {
             cpu,
