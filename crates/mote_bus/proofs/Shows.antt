@@ -13,7 +13,8 @@ use Rattle.msp430_cpu.specs.Cpu.{Cpu, even, changed_at}
 use Rattle.msp430_cpu.specs.Bus.{Bus}
 use Rattle.msp430_cpu.specs.Memory.{Memory, is_ram, is_port, byte_at, word_at, with_word_at, with_ram, with_ports, memory_bus}
 use Rattle.msp430_cpu.specs.Exec.{Joined, exec}
-use Rattle.msp430_cpu.proofs.Related.{AreRelated, same_step}
+use Rattle.msp430_cpu.specs.Alike.{AreRelated}
+use Rattle.msp430_cpu.proofs.Related.{same_step}
 use Rattle.mote_bus.specs.declared.access.Access.{Access}
 use Rattle.mote_bus.specs.declared.access.Access.TheVariants.{Read, Write}
 use Rattle.mote_bus.specs.Slots.{Bare, bare_ports}
