@@ -1,7 +1,16 @@
 //! A call of a processor on its bus.
 
 ghost use Rattle.std.specs.Prelude.{◌≡◌, false};
+ghost use Rattle.std.specs.Option.{option_to_list};
+ghost use Rattle.msp430_cpu.specs.Cpu.{even};
+ghost use Rattle.msp430_cpu.specs.Memory.{is_port};
+ghost use Rattle.mote_bus.specs.Accesses.{shown_of};
 ghost use Rattle.mote_bus.specs.declared.access.Access.TheVariants.{Read};
+
+use mote_devices::Shown;
+
+/// The address that stops the mote.
+const FAULT: u16 = 0x0104;
 
 /// A read or a write: the address as it was given, whether it was one of a word, and the value.
 #[derive(Clone, Copy, Debug, PartialEq, Eq)]
@@ -17,4 +26,36 @@ impl Default for Access {
     fn default() -> Access {
         Access::Read(0, false, 0)
     }
+}
+
+impl Access {
+    /// What a trace shows of it: a read or a write of a word at a port, and a write to FAULT as the code.
+    pub fn shown(self) -> Option<Shown>
+        ensures { option_to_list result ≡ shown_of self }
+    {
+        match self {
+            Access::Read(addr, true, value) if is_port(addr) => Some(Shown::In(even(addr), value)),
+            Access::Write(addr, true, value) if is_port(addr) => {
+                if even(addr) == FAULT {
+                    Some(Shown::Fault(value % 256))
+                } else {
+                    Some(Shown::Out(even(addr), value))
+                }
+            }
+            _ => None,
+        }
+    }
+}
+
+fn is_port(address: u16) -> bool
+    ensures { result ≡ is_port address }
+{
+    0x0100 <= address && address < 0x0200
+}
+
+// The address with bit 0 at 0.
+fn even(address: u16) -> u16
+    ensures { result ≡ even address }
+{
+    address / 2 * 2
 }

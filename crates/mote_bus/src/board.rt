@@ -1,10 +1,10 @@
 //! A board: eight slots for devices, and the interrupt controller.
 
-ghost use Rattle.std.specs.Prelude.{◌≡◌, ◌≤◌, ◌<◌, ◌^◌, ◌%◌, ◌==◌, if◌then◌else◌, ℕ, Option, Some, None, map, vec_len, length};
+ghost use Rattle.std.specs.Prelude.{◌≡◌, ◌≤◌, ◌<◌, ◌^◌, ◌%◌, ◌==◌, if◌then◌else◌, ℕ, Option, Some, None, is_some, map, vec_len, length};
 ghost use Rattle.std.specs.Option.{option_map};
 ghost use Rattle.mote_devices.specs.declared.state.BoardState.{BoardState};
-ghost use Rattle.mote_devices.specs.declared.shown.Given.TheVariants.{Arrive};
-ghost use Rattle.mote_devices.specs.Board.{board_answer, board_read, board_write, board_given, board_ack, line_of, line_below, request_bits};
+ghost use Rattle.mote_devices.specs.declared.shown.Given.TheVariants.{Arrive, Unplug};
+ghost use Rattle.mote_devices.specs.Board.{device, board_answer, board_read, board_write, board_given, board_ack, line_of, line_below, request_bits, with_closed_mask};
 ghost use Rattle.mote_devices.specs.Outside.{first_code};
 ghost use Rattle.mote_bus.specs.Slots.{Bare, board_with, board_of, bare_ports};
 
@@ -106,6 +106,31 @@ impl<D: Device> Slots<D> {
         if slot < 8 {
             slot::arrive(&mut self.slots[slot], value);
         }
+    }
+
+    /// Takes the device in slot `k` out, and tells whether there was one. Slots from 8 on are empty.
+    pub fn unplug(&mut self, k: u8) -> bool
+        ensures was { result ≡ is_some (device (⟦<Slots<D> as AsBoard>⟧.board self.old) k) }
+        ensures board { ⟦<Slots<D> as AsBoard>⟧.board self.new ≡ board_given (⟦<Slots<D> as AsBoard>⟧.board self.old) (Unplug k) }
+        ensures stop { ⟦<Slots<D> as AsBoard>⟧.stop self.new ≡ ⟦<Slots<D> as AsBoard>⟧.stop self.old }
+    {
+        let slot = usize::from(k);
+        if slot < 8 {
+            let held = self.slots[slot].is_some();
+            self.slots[slot] = None;
+            held
+        } else {
+            false
+        }
+    }
+
+    /// What the board is at reset: the mask is 0, no code was written to FAULT, and each device stays as it is.
+    pub fn reset(&mut self)
+        ensures board { ⟦<Slots<D> as AsBoard>⟧.board self.new ≡ with_closed_mask (⟦<Slots<D> as AsBoard>⟧.board self.old) }
+        ensures stop { ⟦<Slots<D> as AsBoard>⟧.stop self.new ≡ None }
+    {
+        self.mask = 0;
+        self.stopped = None;
     }
 
     /// The greatest requested line.

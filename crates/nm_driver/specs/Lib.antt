@@ -4,5 +4,6 @@ pub mod Status
 pub mod RunText
 pub mod Output
 pub mod MoteState
+pub mod MoteRun
 pub mod Content
 pub mod Compiled
