@@ -4,4 +4,6 @@ pub mod ImageText
 pub mod ImageLines
 pub mod ScheduleText
 pub mod TraceText
+pub mod Parsed
+pub mod Answers
 pub mod TextRows

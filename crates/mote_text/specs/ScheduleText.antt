@@ -33,11 +33,14 @@ abbrev pub no_rows : Rows
 no_rows = record { last = 0; rows = [] }
 
 -- slots do not fall
-abbrev pub with_row : Rows → Due → Option Rows
-with_row r due = if nat_le r.last due.slot then Some (record { last = due.slot; rows = r.rows ++ due ∷ [] }) else None
+abbrev pub next_due : ℕ → List ℕ → Option Due
+next_due last line = option_and_then (λ due. if nat_le last due.slot then Some due else None) (due_of_words (words line))
+
+abbrev pub with_row : Rows → Due → Rows
+with_row r due = record { last = due.slot; rows = r.rows ++ due ∷ [] }
 
 abbrev pub schedule_step : Rows → List ℕ → Option Rows
-schedule_step r line = if is_comment line then Some r else option_and_then (with_row r) (due_of_words (words line))
+schedule_step r line = if is_comment line then Some r else option_map (with_row r) (next_due r.last line)
 
 -- the rows of the text, or the number of the first line that is refused
 unfoldable pub schedule_of : List ℕ → Result (List Due) ℕ

@@ -1,0 +1,88 @@
+//! Schedules: a row a line.
+
+ghost use Rattle.std.specs.Prelude.{◌≡◌, ◌≤◌, ◌++◌, ◌∷◌, [], ◌==◌, Ok, Some, nat_eq, nat_le, codes, length, IfOk, IfErr, MatchOption, if◌then◌else◌};
+ghost use Rattle.std.specs.Cmp.Lexicographic.{pointwise};
+ghost use Rattle.mote_text.specs.Lines.{words};
+ghost use Rattle.mote_text.specs.ScheduleText.{due_of_words, is_comment, next_due, schedule_of};
+ghost use Rattle.mote_text.specs.Answers.{IsScheduleFault};
+
+use crate::TextFault;
+use crate::lines::{cut, cut_line, next_line, numeral};
+use mote_devices::{Due, Given};
+use nm_base::{Limit, Which};
+use std::alloc::Global;
+
+/// The most rows that a schedule has.
+const MOST_ROWS: usize = 100_000;
+
+fn is_comment(line: &[u8]) -> bool
+    ensures { result ≡ is_comment line.now }
+{
+    line.is_empty() || line[0] == b'#'
+}
+
+// The row of four words.
+fn due_of(slot: &[u8], verb: &[u8], device: &[u8], value: &[u8]) -> Option<Due>
+    ensures { result ≡ due_of_words (slot.now ∷ verb.now ∷ device.now ∷ value.now ∷ []) }
+{
+    if slot.len() > 10 || verb != b"arrive".as_slice() {
+        return None;
+    }
+    let slot = numeral(slot, 10, u32::MAX)?;
+    let device = numeral(device, 10, 7)?;
+    let value = numeral(value, 10, 65535)?;
+    let given = Given::Arrive(device as u8, value as u16);
+    Some(Due { slot, given })
+}
+
+fn due_of_line(line: &[u8]) -> Option<Due>
+    ensures { result ≡ due_of_words (words line.now) }
+{
+    let (slot, rest) = cut(line, b' ')?;
+    let (verb, rest) = cut(rest, b' ')?;
+    let (device, value) = cut(rest, b' ')?;
+    match cut(value, b' ') {
+        None => due_of(slot, verb, device, value),
+        Some(_) => None,
+    }
+}
+
+// The row of a line, where its slot is not before the last one.
+fn next_due(last: u32, line: &[u8]) -> Option<Due>
+    ensures { result ≡ next_due last line.now }
+{
+    let due = due_of_line(line)?;
+    if last <= due.slot { Some(due) } else { None }
+}
+
+#[tactic(auto, unfolding(crate::specs::ScheduleText::schedule_of))]
+/// The rows of a schedule. Lines are `SLOT arrive DEVICE VALUE` with decimal numbers, comments after `#`, or blank; slots do
+/// not fall. `BadSchedule` names the first line that is refused; `Limit` comes where none is and there are too many rows.
+pub fn read_schedule(alloc: Global, text: &[u8]) -> Result<Vec<Due>, TextFault>
+    ensures read { IfOk result (λ rows. schedule_of text.now ≡ Ok rows.items) }
+    ensures few { IfOk result (λ rows. length rows.items ≤ 100000) }
+    ensures fault { IfErr result (λ e. IsScheduleFault text.now e) }
+{
+    let mut rows = Vec::new(alloc);
+    let mut last = 0;
+    let mut number = 1;
+    let mut rest = text;
+    while let Some((line, behind)) = cut_line(rest) {
+        if !is_comment(line) {
+            let Some(due) = next_due(last, line) else {
+                return Err(TextFault::BadSchedule(number));
+            };
+            last = due.slot;
+            rows.push(due)?;
+        }
+        number = next_line(number);
+        rest = behind;
+    }
+    if rows.len() > MOST_ROWS {
+        return Err(TextFault::Limit(Limit {
+            which: Which::Schedule,
+            have: 100_001,
+        }));
+    }
+    Ok(rows)
+}
