@@ -4,6 +4,8 @@ pub mod ImageText
 pub mod ImageLines
 pub mod ScheduleText
 pub mod TraceText
+pub mod TraceWords
+pub mod Cells
 pub mod Parsed
 pub mod Answers
 pub mod TextRows

@@ -1,12 +1,14 @@
 //! The texts of images and traces.
 #![tactic(auto)]
 
+mod cells;
 mod hex;
 mod image_line;
 mod image_text;
 mod lines;
 mod loaded;
-mod read_image;
+mod event_line;
+mod reader;
 mod rows;
 mod schedule;
 mod text_fault;
@@ -14,6 +16,8 @@ mod trace;
 
 pub use image_text::push_image;
 pub use loaded::{Loaded, load_image};
+pub use event_line::{print_event, read_event};
+pub use reader::read_image;
 pub use rows::worked_rows;
 pub use schedule::read_schedule;
 pub use text_fault::TextFault;
