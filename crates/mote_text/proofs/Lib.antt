@@ -1,3 +1,4 @@
 pub mod Numerals
 pub mod Cutting
 pub mod ImageBytes
+pub mod EventWords

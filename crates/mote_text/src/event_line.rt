@@ -1,23 +1,94 @@
 //! Events as text, and from it.
 
-ghost use Rattle.std.specs.Prelude.{◌≡◌, ◌≤◌, ◌∷◌, [], ◌++◌, Some, None, take, drop, length, IfSome};
+ghost use Rattle.std.specs.Prelude.{◌≡◌, ◌≤◌, ◌+◌, ◌∷◌, [], ◌++◌, Some, None, decimal, take, drop, length, IfSome};
+ghost use Rattle.mote_text.specs.Hex.{hex_word};
 ghost use Rattle.mote_text.specs.Lines.{words};
-ghost use Rattle.mote_text.specs.TraceText.{event_text};
+ghost use Rattle.mote_text.specs.TraceText.{and_number, event_text, shown_text};
 ghost use Rattle.mote_text.specs.TraceWords.{event_of, shown_of, shown_of_one, shown_of_two, IsEvent};
 ghost use Rattle.mote_text.specs.declared.trace.Event.{Event as EventOf};
 
 use crate::Event;
 use crate::lines::{cut, numeral};
-use arrayvec::ArrayString;
+use crate::hex::hex_digits;
+use arrayvec::ArrayVec;
+use itoa::Buffer;
 use mote_devices::{Given, Shown};
-use std::fmt::Write;
 
-// An event's line, without its end. It has 27 bytes at most.
-fn line_of(event: &Event) -> ArrayString<64>
-    ensures { result.bytes ≡ event_text event.now.slot event.now.shown }
+/// Room for an event's line, which has 27 bytes at most.
+type Line = ArrayVec<u8, 64>;
+
+fn push(line: &mut Line, piece: &[u8])
+    requires { length line.old.items + length piece.now ≤ 64 }
+    ensures { line.new.items ≡ line.old.items ++ piece.now }
 {
-    let mut line = ArrayString::new();
-    let _ = write!(line, "{event}");
+    // There is room.
+    let _ = line.try_extend_from_slice(piece);
+}
+
+fn push_number(line: &mut Line, number: u32)
+    requires { length line.old.items + 10 ≤ 64 }
+    ensures text { line.new.items ≡ line.old.items ++ decimal number }
+    ensures short { length line.new.items ≤ length line.old.items + 10 }
+{
+    let mut digits = Buffer::new();
+    push(line, digits.format(number).as_bytes());
+}
+
+// A space and a number.
+fn push_and_number(line: &mut Line, number: u32)
+    requires { length line.old.items + 11 ≤ 64 }
+    ensures text { line.new.items ≡ line.old.items ++ and_number number }
+    ensures short { length line.new.items ≤ length line.old.items + 11 }
+{
+    push(line, b" ");
+    push_number(line, number);
+}
+
+// A port and the value there, behind a word.
+fn push_access(line: &mut Line, word: &[u8], port: u16, value: u16)
+    requires room { length line.old.items ≤ 10 }
+    requires short { length word.now ≤ 5 }
+    ensures { line.new.items ≡ line.old.items ++ (word.now ++ hex_word port ++ and_number value) }
+{
+    push(line, word);
+    push(line, &hex_digits(port));
+    push_and_number(line, u32::from(value));
+}
+
+fn push_shown(line: &mut Line, shown: Shown)
+    requires { length line.old.items ≤ 10 }
+    ensures { line.new.items ≡ line.old.items ++ shown_text shown }
+{
+    match shown {
+        Shown::Given(Given::Arrive(device, value)) => {
+            push(line, b" arrive");
+            push_and_number(line, u32::from(device));
+            push_and_number(line, u32::from(value));
+        }
+        Shown::Given(Given::Unplug(device)) => {
+            push(line, b" unplug");
+            push_and_number(line, u32::from(device));
+        }
+        Shown::In(port, value) => push_access(line, b" in ", port, value),
+        Shown::Out(port, value) => push_access(line, b" out ", port, value),
+        Shown::Enter(vector) => {
+            push(line, b" enter");
+            push_and_number(line, u32::from(vector));
+        }
+        Shown::Fault(code) => {
+            push(line, b" fault");
+            push_and_number(line, u32::from(code));
+        }
+    }
+}
+
+// An event's line, without its end.
+fn line_of(event: &Event) -> Line
+    ensures { result.items ≡ event_text event.now.slot event.now.shown }
+{
+    let mut line = Line::new();
+    push_number(&mut line, event.slot);
+    push_shown(&mut line, event.shown);
     line
 }
 
@@ -28,7 +99,7 @@ pub fn print_event(event: &Event, buffer: &mut [u8; 64]) -> usize
     ensures rest { drop result buffer.new ≡ drop result buffer.old }
 {
     let line = line_of(event);
-    let bytes = line.as_str().as_bytes();
+    let bytes = line.as_slice();
     buffer[..bytes.len()].copy_from_slice(bytes);
     bytes.len()
 }
@@ -99,7 +170,7 @@ pub fn read_event(line: &[u8]) -> Option<Event>
 {
     let event = event_of(line)?;
     let printed = line_of(&event);
-    if printed.as_str().as_bytes() == line {
+    if printed.as_slice() == line {
         Some(event)
     } else {
         None
