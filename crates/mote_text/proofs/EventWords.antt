@@ -82,16 +82,19 @@ module _ (p : ℕ) (small : p < 0x10000) where
 
 -- ---- events
 
-one_operand : (f : ℕ → Shown) (o p : Option ℕ) (s a : ℕ) → o ≡ Some s → p ≡ Some a → option_and_then (λ s. option_map (λ shown. record { slot = s; shown = shown }) (option_map f p)) o ≡ Some (record { slot = s; shown = f a })
-one_operand f o p s a e h =
-    ap (option_and_then (λ s. option_map (λ shown. record { slot = s; shown = shown }) (option_map f p))) e
-    ∙ ap (λ q. option_map (λ shown. record { slot = s; shown = shown }) (option_map f q)) h
+abbrev at_slot : ℕ → Shown → Event
+at_slot s shown = record { slot = s; shown = shown }
 
-two_operands : (f : ℕ → ℕ → Shown) (o p q : Option ℕ) (s a b : ℕ) → o ≡ Some s → p ≡ Some a → q ≡ Some b → option_and_then (λ s. option_map (λ shown. record { slot = s; shown = shown }) (option_and_then (λ k. option_map (λ v. f k v) q) p)) o ≡ Some (record { slot = s; shown = f a b })
+one_operand : (f : ℕ → Shown) (o p : Option ℕ) (s a : ℕ) → o ≡ Some s → p ≡ Some a → option_and_then (λ s. option_map (at_slot s) (option_map f p)) o ≡ Some (at_slot s (f a))
+one_operand f o p s a e h =
+    ap (option_and_then (λ s. option_map (at_slot s) (option_map f p))) e
+    ∙ ap (λ q. option_map (at_slot s) (option_map f q)) h
+
+two_operands : (f : ℕ → ℕ → Shown) (o p q : Option ℕ) (s a b : ℕ) → o ≡ Some s → p ≡ Some a → q ≡ Some b → option_and_then (λ s. option_map (at_slot s) (option_and_then (λ k. option_map (f k) q) p)) o ≡ Some (at_slot s (f a b))
 two_operands f o p q s a b e h g =
-    ap (option_and_then (λ s. option_map (λ shown. record { slot = s; shown = shown }) (option_and_then (λ k. option_map (λ v. f k v) q) p))) e
-    ∙ ap (λ r. option_map (λ shown. record { slot = s; shown = shown }) (option_and_then (λ k. option_map (λ v. f k v) q) r)) h
-    ∙ ap (λ r. option_map (λ shown. record { slot = s; shown = shown }) (option_map (λ v. f a v) r)) g
+    ap (option_and_then (λ s. option_map (at_slot s) (option_and_then (λ k. option_map (f k) q) p))) e
+    ∙ ap (λ r. option_map (at_slot s) (option_and_then (λ k. option_map (f k) q) r)) h
+    ∙ ap (λ r. option_map (at_slot s) (option_map (f a) r)) g
 
 letters : (xs : List ℕ) → list_all (λ b. not (b == 32)) xs ≡ true → IsWord xs
 letters [] h = All-nil (λ b. (b == 32) ≡ false)
