@@ -10,6 +10,7 @@ use Rattle.std.proofs.lemmas.Bool.Decides.{nat_tests}
 use Rattle.std.proofs.lemmas.Fmt.{decimal_is_IsNumeral}
 use Rattle.std.proofs.lemmas.List.Elements.{All-nil, All-cons}
 use Rattle.std.proofs.lemmas.List.Splits.{slice_split_at, slice_split_none}
+use Rattle.std.proofs.lemmas.Option.{same_Some}
 use Rattle.std.proofs.lemmas.Str.{digit_value-digit_char}
 use Rattle.mote_devices.specs.declared.shown.Given.TheVariants.{Arrive, Unplug}
 use Rattle.mote_devices.specs.declared.shown.Shown.{Shown}
@@ -18,7 +19,7 @@ use Rattle.mote_text.specs.declared.trace.Event.{Event}
 use Rattle.mote_text.specs.Hex.{hex_word}
 use Rattle.mote_text.specs.Lines.{numeral, words}
 use Rattle.mote_text.specs.TraceText.{event_text}
-use Rattle.mote_text.specs.TraceWords.{IsEvent, IsShown, event_of}
+use Rattle.mote_text.specs.TraceWords.{IsEvent, IsShown, LineTellsEvent, event_of}
 use Rattle.mote_text.proofs.Numerals.{some_where}
 
 -- ---- words
@@ -96,7 +97,7 @@ two_operands f o p q s a b e h g =
     ∙ ap (λ r. option_map (at_slot s) (option_and_then (λ k. option_map (f k) q) r)) h
     ∙ ap (λ r. option_map (at_slot s) (option_map (f a) r)) g
 
-letters : (xs : List ℕ) → list_all (λ b. not (b == 32)) xs ≡ true → IsWord xs
+pub letters : (xs : List ℕ) → list_all (λ b. not (b == 32)) xs ≡ true → IsWord xs
 letters [] h = All-nil (λ b. (b == 32) ≡ false)
 letters (x ∷ xs) h =
     let p = and_parts (not (x == 32)) (list_all (λ b. not (b == 32)) xs) h in
@@ -130,3 +131,6 @@ module _ (s : ℕ) (in_32 : s < 0x100000000) where
 -- the words of an event's line give it back
 pub event_again : (e : Event) (line : List ℕ) → IsEvent e → event_text e.slot e.shown ≡ line → event_of (words line) ≡ Some e
 event_again e line h is = ap (λ t. event_of (words t)) (sym is) ∙ again e.slot h.0 e.shown h.1
+
+pub line_tells_event : LineTellsEvent
+line_tells_event d e hd he same = same_Some d e (sym (event_again d (event_text d.slot d.shown) hd refl) ∙ event_again e (event_text d.slot d.shown) he (sym same))

@@ -2,3 +2,4 @@ pub mod Numerals
 pub mod Cutting
 pub mod ImageBytes
 pub mod EventWords
+pub mod ScheduleBack

@@ -1,5 +1,5 @@
 -- The text of a schedule: a row a line, `SLOT arrive DEVICE VALUE` (own).
-use Rattle.std.specs.Prelude.{◌≡◌, ◌<◌, ◌≤◌, ℕ, ◌==◌, Bool, true, ◌&&◌, nat_le, nat_eq, if◌then◌else◌, List, [], ◌∷◌, ◌++◌, length, Option, Some, None, Result, codes, decimal}
+use Rattle.std.specs.Prelude.{◌≡◌, ◌<◌, ◌≤◌, ℕ, ◌==◌, Bool, true, ◌&&◌, nat_le, nat_eq, if◌then◌else◌, List, [], ◌∷◌, ◌++◌, length, Option, Some, None, Result, Ok, codes, decimal}
 use Rattle.std.specs.Cmp.Lexicographic.{pointwise}
 use Rattle.std.specs.List.{flat_map}
 use Rattle.std.specs.Option.{option_map, option_and_then}
@@ -48,12 +48,13 @@ schedule_of text = read_lines schedule_step (λ r. Some r.rows) 1 no_rows (lines
 
 -- ---- printing
 
-abbrev pub given_text : Given → List ℕ
-given_text (Arrive k v) = codes " arrive " ++ (decimal k ++ (codes " " ++ decimal v))
-given_text (Unplug k) = codes " unplug " ++ decimal k
+-- a row without the end of its line
+abbrev pub row_text : ℕ → Given → List ℕ
+row_text slot (Arrive k v) = decimal slot ++ (codes " arrive " ++ (decimal k ++ (codes " " ++ decimal v)))
+row_text slot (Unplug k) = decimal slot ++ (codes " unplug " ++ decimal k)
 
 abbrev pub due_line : Due → List ℕ
-due_line due = decimal due.slot ++ (given_text due.given ++ 10 ∷ [])
+due_line due = row_text due.slot due.given ++ 10 ∷ []
 
 abbrev pub schedule_text : List Due → List ℕ
 schedule_text rows = flat_map due_line rows
@@ -72,3 +73,7 @@ RowsFrom least (due ∷ rows) = (least ≤ due.slot) × (due.slot < 0x100000000)
 pub record IsSchedule (rows : List Due) : Type 0 where
   pub few : length rows ≤ 100000
   pub ordered : RowsFrom 0 rows
+
+-- what is printed reads back
+abbrev pub ScheduleReadsBack : Type 0
+ScheduleReadsBack = (rows : List Due) → IsSchedule rows → schedule_of (schedule_text rows) ≡ Ok rows

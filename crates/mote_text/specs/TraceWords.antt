@@ -7,6 +7,7 @@ use Rattle.mote_devices.specs.declared.shown.Shown.{Shown}
 use Rattle.mote_devices.specs.declared.shown.Shown.TheVariants.{Given, In, Out, Enter, Fault}
 use Rattle.mote_text.specs.declared.trace.Event.{Event}
 use Rattle.mote_text.specs.Lines.{numeral}
+use Rattle.mote_text.specs.TraceText.{event_text}
 
 abbrev pub is_word : List ℕ → List ℕ → Bool
 is_word = pointwise nat_eq
@@ -47,3 +48,7 @@ IsShown (Fault c) = c < 0x10000
 -- the numbers have their widths
 abbrev pub IsEvent : Event → Type 0
 IsEvent e = (e.slot < 0x100000000) × IsShown e.shown
+
+-- an event is known from its line
+abbrev pub LineTellsEvent : Type 0
+LineTellsEvent = (d e : Event) → IsEvent d → IsEvent e → event_text d.slot d.shown ≡ event_text e.slot e.shown → d ≡ e

@@ -5,6 +5,7 @@ mod cells;
 mod hex;
 mod image_line;
 mod image_text;
+mod laws;
 mod lines;
 mod loaded;
 mod event_line;
@@ -15,11 +16,12 @@ mod text_fault;
 mod trace;
 
 pub use image_text::push_image;
+pub use laws::{line_tells_event, schedule_reads_back};
 pub use loaded::{Loaded, load_image};
 pub use event_line::{print_event, read_event};
 pub use reader::read_image;
 pub use rows::worked_rows;
-pub use schedule::read_schedule;
+pub use schedule::{print_schedule, read_schedule};
 pub use text_fault::TextFault;
 pub use trace::{End, Event};
 

@@ -1,16 +1,17 @@
 //! Schedules: a row a line.
 
-ghost use Rattle.std.specs.Prelude.{◌≡◌, ◌≤◌, ◌++◌, ◌∷◌, [], ◌==◌, Ok, Some, nat_eq, nat_le, codes, length, IfOk, IfErr, MatchOption, if◌then◌else◌};
+ghost use Rattle.std.specs.Prelude.{◌≡◌, ◌≤◌, ◌++◌, ◌∷◌, [], ◌==◌, Ok, Some, nat_eq, nat_le, codes, length, IfOk, IfErr, OnOk, string_bytes, MatchOption, if◌then◌else◌};
 ghost use Rattle.std.specs.Cmp.Lexicographic.{pointwise};
 ghost use Rattle.mote_text.specs.Lines.{words};
-ghost use Rattle.mote_text.specs.ScheduleText.{due_of_words, is_comment, next_due, schedule_of};
+ghost use Rattle.mote_text.specs.ScheduleText.{IsSchedule, due_line, due_of_words, is_comment, next_due, schedule_of, schedule_text};
 ghost use Rattle.mote_text.specs.Answers.{IsScheduleFault};
 
 use crate::TextFault;
 use crate::lines::{cut, cut_line, next_line, numeral};
 use mote_devices::{Due, Given};
-use nm_base::{Limit, Which};
-use std::alloc::Global;
+use nm_base::{Limit, NoMemory, Which};
+use std::alloc::{AllocError, Global};
+use std::fmt::Write;
 
 /// The most rows that a schedule has.
 const MOST_ROWS: usize = 100_000;
@@ -85,4 +86,27 @@ pub fn read_schedule(alloc: Global, text: &[u8]) -> Result<Vec<Due>, TextFault>
         }));
     }
     Ok(rows)
+}
+
+fn push_row(text: &mut String, due: &Due) -> Result<(), AllocError>
+    ensures { OnOk result (string_bytes text.new ≡ string_bytes text.old ++ due_line due.now) }
+{
+    let slot = due.slot;
+    match due.given {
+        Given::Arrive(device, value) => write!(text, "{slot} arrive {device} {value}\n"),
+        Given::Unplug(device) => write!(text, "{slot} unplug {device}\n"),
+    }
+}
+
+/// The text of a schedule's rows, which reads back to them.
+pub fn print_schedule(alloc: Global, rows: &[Due]) -> Result<Vec<u8>, NoMemory>
+    requires { IsSchedule rows.now }
+    ensures text { IfOk result (λ text. text.items ≡ schedule_text rows.now) }
+    ensures back { IfOk result (λ text. schedule_of text.items ≡ Ok rows.now) }
+{
+    let mut text = String::new(alloc);
+    for due in rows {
+        push_row(&mut text, due)?;
+    }
+    Ok(text.into_bytes())
 }
