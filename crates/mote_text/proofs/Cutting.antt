@@ -1,6 +1,6 @@
 -- Where a text is cut.
-use Rattle.std.proofs.Common.{◌≡◌, ℕ, ◌+◌, ◌-◌, ◌<◌, ◌≤◌, ◌==◌, Bool, true, false, not, cond, nat_lt, Option, Some, None, List, [], ◌∷◌, length, take, drop, get_or, length-drop, arith, refl, sym, ap, ◌∙◌}
-use Rattle.std.specs.List.{slice_split, position_or_len, count_by, All}
+use Rattle.std.proofs.Common.{◌≡◌, ℕ, ◌+◌, ◌-◌, ◌<◌, ◌≤◌, ◌==◌, Bool, true, false, not, cond, nat_lt, Some, None, List, [], ◌∷◌, length, take, drop, length-drop, arith, refl, sym, ap, ◌∙◌}
+use Rattle.std.specs.List.{slice_split, position_or_len, count_by}
 use Rattle.std.specs.Str.Lines.{lines, lines_of_parts, strip_carriage_return}
 use Rattle.std.specs.Option.{unwrap_or}
 use Rattle.mote_text.specs.Lines.{words}

@@ -1,9 +1,9 @@
 -- The words of an event's line give the event back.
-use Rattle.std.proofs.Common.{◌≡◌, ℕ, ◌+◌, ◌*◌, ◌/◌, ◌%◌, ◌<◌, ◌≤◌, ◌^◌, ◌==◌, Bool, true, false, not, List, [], ◌∷◌, ◌++◌, Option, Some, None, arith, refl, sym, ap, ◌∙◌}
+use Rattle.std.proofs.Common.{◌≡◌, ℕ, ◌/◌, ◌%◌, ◌<◌, ◌≤◌, ◌==◌, Bool, true, false, not, List, [], ◌∷◌, ◌++◌, Option, Some, arith, refl, sym, ap, ◌∙◌}
 use Rattle.std.specs.Prelude.{codes, decimal}
 use Rattle.std.specs.List.{All, list_all}
-use Rattle.std.specs.Char.{digit_value, digit_char}
-use Rattle.std.specs.Str.Parse.{AllDigits, IsNumeral, digits_value}
+use Rattle.std.specs.Char.{digit_value}
+use Rattle.std.specs.Str.Parse.{AllDigits, digits_value}
 use Rattle.std.specs.Option.{option_map, option_and_then}
 use Rattle.std.proofs.lemmas.Bool.{and_parts}
 use Rattle.std.proofs.lemmas.Bool.Decides.{nat_tests}
@@ -68,9 +68,13 @@ module _ (n : ℕ) (small : n < 0x100000000) where
 
 module _ (p : ℕ) (small : p < 0x10000) where
   hex_digits : AllDigits 16 (hex_word p)
-  hex_digits =
-      (omega (arith, digit_value-digit_char (p / 0x1000) (omega arith)), (omega (arith, digit_value-digit_char (p / 0x100 % 16) (omega arith)),
-        (omega (arith, digit_value-digit_char (p / 0x10 % 16) (omega arith)), (omega (arith, digit_value-digit_char (p % 16) (omega arith)), tt))))
+  hex_digits = (
+    omega (arith, digit_value-digit_char (p / 0x1000) (omega arith)),
+    (
+      omega (arith, digit_value-digit_char (p / 0x100 % 16) (omega arith)),
+      (omega (arith, digit_value-digit_char (p / 0x10 % 16) (omega arith)), (omega (arith, digit_value-digit_char (p % 16) (omega arith)), tt)),
+    ),
+  )
 
   hex_value : digits_value 16 (hex_word p) ≡ p
   hex_value = omega (arith, digit_value-digit_char (p / 0x1000) (omega arith), digit_value-digit_char (p / 0x100 % 16) (omega arith), digit_value-digit_char (p / 0x10 % 16) (omega arith), digit_value-digit_char (p % 16) (omega arith))

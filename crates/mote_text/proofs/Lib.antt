@@ -3,3 +3,4 @@ pub mod Cutting
 pub mod ImageBytes
 pub mod EventWords
 pub mod ScheduleBack
+pub mod Writing

@@ -85,10 +85,11 @@ up_to base most ds o low e = ap (option_and_then (λ v. cond (nat_le v most) (So
     both : (t : Bool) → nat_le (digits_value base ds) most ≡ t → IsNumeral base ds → cond (nat_le (digits_value base ds) most) (Some (digits_value base ds)) None ≡ numeral base most ds
     both true k n = ap (λ b. cond b (Some (digits_value base ds)) None) k ∙ sym (some_where base most ds n (grind (arith, nat_tests)))
     both false k n = ap (λ b. cond b (Some (digits_value base ds)) None) k ∙ sym (none_where base most ds (λ m small. absurd (let f : most < digits_value base ds = grind (arith, nat_tests) in omega arith)))
+
     by_test : (t : Bool) → is_numeral base 0xFFFFFFFF ds ≡ t → option_and_then (λ v. cond (nat_le v most) (Some v) None) (cond (is_numeral base 0xFFFFFFFF ds) (Some (digits_value base ds)) None) ≡ numeral base most ds
     by_test true k = ap (λ b. option_and_then (λ v. cond (nat_le v most) (Some v) None) (cond b (Some (digits_value base ds)) None)) k ∙ both (nat_le (digits_value base ds) most) refl (test_holds base 0xFFFFFFFF ds k).0
     by_test false k = ap (λ b. option_and_then (λ v. cond (nat_le v most) (Some v) None) (cond b (Some (digits_value base ds)) None)) k
-      ∙ sym (none_where base most ds (λ m small. absurd (let h = sym k ∙ holds_test base 0xFFFFFFFF ds m (omega arith) in apart h)))
+        ∙ sym (none_where base most ds (λ m small. absurd (let h = sym k ∙ holds_test base 0xFFFFFFFF ds m (omega arith) in apart h)))
       where
         apart : false ≡ true → ⊥
         apart h = cc

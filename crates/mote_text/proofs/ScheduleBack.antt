@@ -1,12 +1,12 @@
 -- A printed schedule reads back to its rows.
-use Rattle.std.proofs.Common.{◌≡◌, ℕ, ◌+◌, ◌-◌, ◌<◌, ◌≤◌, ◌^◌, ◌==◌, Bool, true, false, not, cond, ◌&&◌, List, [], ◌∷◌, ◌++◌, length, take, get_or, Option, Some, None, arith, refl, sym, ap, ◌∙◌, append_assoc, length-append}
-use Rattle.std.specs.Prelude.{codes, decimal, nat_le, slice_index, Result, Ok, Err}
-use Rattle.std.specs.List.{All, list_all, flat_map, slice_split}
+use Rattle.std.proofs.Common.{◌≡◌, ℕ, ◌-◌, ◌<◌, ◌≤◌, ◌==◌, Bool, true, false, not, cond, ◌&&◌, List, [], ◌∷◌, ◌++◌, length, take, Option, Some, None, arith, refl, sym, ap, ◌∙◌, append_assoc, length-append}
+use Rattle.std.specs.Prelude.{codes, decimal, nat_le, Result, Ok, Err}
+use Rattle.std.specs.List.{All, list_all}
 use Rattle.std.specs.Option.{option_map, option_and_then}
 use Rattle.std.specs.Char.{digit_value}
 use Rattle.std.specs.Str.Lines.{lines, strip_carriage_return}
 use Rattle.std.specs.Str.Parse.{AllDigits}
-use Rattle.std.proofs.lemmas.Bool.{and_parts, and_from}
+use Rattle.std.proofs.lemmas.Bool.{and_parts}
 use Rattle.std.proofs.lemmas.Bool.Decides.{nat_tests}
 use Rattle.std.proofs.lemmas.Fmt.{decimal_is_IsNumeral, decimal_nonempty, length-decimal-le}
 use Rattle.std.proofs.lemmas.List.{append-nil}
@@ -16,7 +16,7 @@ use Rattle.mote_devices.specs.declared.shown.Due.{Due}
 use Rattle.mote_devices.specs.declared.shown.Given.{Given}
 use Rattle.mote_devices.specs.declared.shown.Given.TheVariants.{Arrive, Unplug}
 use Rattle.mote_text.specs.Lines.{next_line, numeral, read_lines, words}
-use Rattle.mote_text.specs.ScheduleText.{IsArrival, IsSchedule, Rows, RowsFrom, ScheduleReadsBack, due_line, due_of_words, is_comment, next_due, no_rows, row_text, schedule_of, schedule_step, schedule_text, with_row}
+use Rattle.mote_text.specs.ScheduleText.{IsArrival, Rows, RowsFrom, ScheduleReadsBack, due_of_words, is_comment, next_due, no_rows, row_text, schedule_of, schedule_step, schedule_text, with_row}
 use Rattle.mote_text.proofs.Cutting.{cut_line}
 use Rattle.mote_text.proofs.EventWords.{decimal_numeral, decimal_word, four_words, letters}
 
@@ -68,10 +68,11 @@ module _ (s k v : ℕ) (hs : s < 0x100000000) (hk : k < 8) (hv : v < 0x10000) wh
   plain =
       All-append IsPlain (decimal s) (codes " arrive " ++ (decimal k ++ (codes " " ++ decimal v))) (number s hs)
       (word (32 ∷ 97 ∷ 114 ∷ 114 ∷ 105 ∷ 118 ∷ 101 ∷ 32 ∷ []) refl (decimal k ++ (codes " " ++ decimal v))
-        (All-append IsPlain (decimal k) (codes " " ++ decimal v) (number k (omega arith)) (word (32 ∷ []) refl (decimal v) (number v (omega arith)))))
+      (All-append IsPlain (decimal k) (codes " " ++ decimal v) (number k (omega arith)) (word (32 ∷ []) refl (decimal v) (number v (omega arith)))))
     where
       number : (n : ℕ) → n < 0x100000000 → All IsPlain (decimal n)
       number n h = plain_digits (decimal n) (decimal_is_IsNumeral n (omega arith)).0.1
+
       word : (xs : List ℕ) → list_all (λ b. not (b == 10) && not (b == 13)) xs ≡ true → (ys : List ℕ) → All IsPlain ys → All IsPlain (xs ++ ys)
       word [] h ys hy = hy
       word (x ∷ xs) h ys hy =
@@ -93,8 +94,10 @@ module _ (s k v : ℕ) (hs : s < 0x100000000) (hk : k < 8) (hv : v < 0x10000) wh
     where
       row : ℕ → ℕ → ℕ → Due
       row s k v = record { slot = s; given = Arrive k v }
+
       joined : Option ℕ → Option ℕ → Option ℕ → Option Due
       joined o p q = option_and_then (λ s. option_and_then (λ k. option_map (λ v. row s k v) q) p) o
+
       ten : nat_le (length (decimal s)) 10 ≡ true
       ten = let short = length-decimal-le 10 s (omega arith) (omega arith) (omega arith) in grind (arith, nat_tests)
 
@@ -109,8 +112,10 @@ module _ (s k v : ℕ) (hs : s < 0x100000000) (hk : k < 8) (hv : v < 0x10000) wh
     where
       in_order : ℕ → Due → Option Due
       in_order last due = cond (nat_le last due.slot) (Some due) None
+
       row : Due
       row = record { slot = s; given = Arrive k v }
+
       not_before : nat_le r.last s ≡ true
       not_before = grind (arith, nat_tests)
 

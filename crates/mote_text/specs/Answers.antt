@@ -1,5 +1,5 @@
 -- What the readers answer in place of what a text says (own). Memory may be wanting at any text.
-use Rattle.std.specs.Prelude.{◌≡◌, ◌<◌, ◌≤◌, ℕ, List, length, Ok, Err}
+use Rattle.std.specs.Prelude.{◌≡◌, ◌<◌, ℕ, List, length, Ok, Err}
 use Rattle.mote_devices.specs.declared.shown.Due.{Due}
 use Rattle.nm_base.specs.declared.limit.Which.TheVariants.{Schedule}
 use Rattle.mote_text.specs.declared.text_fault.TextFault.{TextFault}

@@ -1,5 +1,5 @@
 -- What a TI-TXT text says (TI-TXT, as the MSP430 tools write it; own: the memory from 0x4000 on, sixteen bytes a line at most).
-use Rattle.std.specs.Prelude.{◌≡◌, ℕ, ◌+◌, ◌==◌, Bool, true, false, ◌&&◌, nat_lt, nat_le, if◌then◌else◌, List, [], ◌∷◌, length, Option, Some, None, Result, is_none}
+use Rattle.std.specs.Prelude.{ℕ, ◌+◌, ◌==◌, Bool, true, false, ◌&&◌, nat_lt, nat_le, if◌then◌else◌, List, [], ◌∷◌, length, Option, Some, None, Result, is_none}
 use Rattle.std.specs.Option.{option_map, option_and_then, unwrap_or}
 use Rattle.std.specs.Str.Lines.{lines}
 use Rattle.mote_text.specs.Lines.{numeral, read_lines}

@@ -1,5 +1,4 @@
 -- What the parts of a reader of images stand for.
-use Rattle.std.specs.Prelude.{ℕ, List, Option}
 use Rattle.mote_text.specs.declared.image_line.ImageLine.{ImageLine as ParsedLine}
 use Rattle.mote_text.specs.declared.image_line.ImageLine.TheVariants as parsed
 use Rattle.mote_text.specs.declared.reader.Reader.{Reader}

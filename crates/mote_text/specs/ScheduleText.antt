@@ -15,7 +15,7 @@ use Rattle.mote_text.specs.Lines.{words, numeral, read_lines}
 abbrev pub due_of_words : List (List ℕ) → Option Due
 due_of_words (slot ∷ verb ∷ device ∷ value ∷ []) =
     if nat_le (length slot) 10 && pointwise nat_eq verb (codes "arrive") then
-      option_and_then (λ s. option_and_then (λ k. option_map (λ v. record { slot = s; given = Arrive k v }) (numeral 10 65535 value)) (numeral 10 7 device)) (numeral 10 0xFFFFFFFF slot)
+    option_and_then (λ s. option_and_then (λ k. option_map (λ v. record { slot = s; given = Arrive k v }) (numeral 10 65535 value)) (numeral 10 7 device)) (numeral 10 0xFFFFFFFF slot)
     else None
 due_of_words _ = None
 

@@ -1,5 +1,5 @@
 -- Worked rows of the texts of images and schedules.
-use Rattle.std.specs.Prelude.{◌≡◌, ℕ, List, [], ◌∷◌, ◌++◌, Result, Ok, Err, codes}
+use Rattle.std.specs.Prelude.{◌≡◌, ℕ, [], ◌∷◌, Result, Ok, Err, codes}
 use Rattle.mote_devices.specs.declared.shown.Given.TheVariants.{Arrive}
 use Rattle.mote_text.specs.ImageLines.{image_of}
 use Rattle.mote_text.specs.ScheduleText.{schedule_of}

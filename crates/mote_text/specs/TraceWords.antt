@@ -1,5 +1,5 @@
 -- A line of a trace by its words. Numbers may have more zeros here than a trace has, and ports digits of either case (own).
-use Rattle.std.specs.Prelude.{◌≡◌, ◌<◌, ℕ, Bool, nat_eq, if◌then◌else◌, List, [], ◌∷◌, Option, Some, None, codes}
+use Rattle.std.specs.Prelude.{◌≡◌, ◌<◌, ℕ, Bool, nat_eq, if◌then◌else◌, List, [], ◌∷◌, Option, None, codes}
 use Rattle.std.specs.Cmp.Lexicographic.{pointwise}
 use Rattle.std.specs.Option.{option_map, option_and_then}
 use Rattle.mote_devices.specs.declared.shown.Given.TheVariants.{Arrive, Unplug}

@@ -34,7 +34,7 @@ impl Cells {
     pub(crate) fn put(&mut self, address: u32, byte: u8) -> Option<()>
         ensures put { MatchOption result (is_free (cells_map self.old.bytes.items) address ≡ false)
             (λ _. (is_free (cells_map self.old.bytes.items) address ≡ true)
-                × (cells_map self.new.bytes.items ≡ with_byte (cells_map self.old.bytes.items) address byte)) }
+            × (cells_map self.new.bytes.items ≡ with_byte (cells_map self.old.bytes.items) address byte)) }
         ensures room { IsSome result → address < 0x10000 }
     {
         let index = address.checked_sub(0x4000)? as usize;
@@ -48,7 +48,12 @@ impl Cells {
     fn bytes(&self, alloc: Global) -> Result<Vec<u8>, NoMemory>
         ensures { IfOk result (λ v. v.items ≡ map (λ o. unwrap_or o 0) self.now.bytes.items) }
     {
-        Ok(self.bytes.iter().map(|byte| byte.unwrap_or(0)).collect(alloc)?)
+        Ok(
+            self.bytes
+                .iter()
+                .map(|byte| byte.unwrap_or(0))
+                .collect(alloc)?,
+        )
     }
 
     /// The bytes, 0 where an address was given none.

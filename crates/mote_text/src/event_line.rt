@@ -8,8 +8,8 @@ ghost use Rattle.mote_text.specs.TraceWords.{event_of, shown_of, shown_of_one, s
 ghost use Rattle.mote_text.specs.declared.trace.Event.{Event as EventOf};
 
 use crate::Event;
-use crate::lines::{cut, numeral};
 use crate::hex::hex_digits;
+use crate::lines::{cut, numeral};
 use arrayvec::ArrayVec;
 use itoa::Buffer;
 use mote_devices::{Given, Shown};

@@ -10,7 +10,6 @@ pub fn schedule_reads_back()
 {}
 
 /// Two events that print alike are one.
-#[tactic(auto, using(crate::proofs::EventWords::line_tells_event))]
 pub fn line_tells_event()
     ensures { LineTellsEvent }
 {}

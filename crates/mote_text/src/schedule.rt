@@ -98,15 +98,22 @@ fn push_row(text: &mut String, due: &Due) -> Result<(), AllocError>
     }
 }
 
-/// The text of a schedule's rows, which reads back to them.
-pub fn print_schedule(alloc: Global, rows: &[Due]) -> Result<Vec<u8>, NoMemory>
-    requires { IsSchedule rows.now }
-    ensures text { IfOk result (λ text. text.items ≡ schedule_text rows.now) }
-    ensures back { IfOk result (λ text. schedule_of text.items ≡ Ok rows.now) }
+fn rows_text(alloc: Global, rows: &[Due]) -> Result<Vec<u8>, NoMemory>
+    ensures { IfOk result (λ text. text.items ≡ schedule_text rows.now) }
 {
     let mut text = String::new(alloc);
     for due in rows {
         push_row(&mut text, due)?;
     }
     Ok(text.into_bytes())
+}
+
+/// The text of a schedule's rows, which reads back to them.
+pub fn print_schedule(alloc: Global, rows: &[Due]) -> Result<Vec<u8>, NoMemory>
+    requires { IsSchedule rows.now }
+    ensures text { IfOk result (λ text. text.items ≡ schedule_text rows.now) }
+    ensures back { IfOk result (λ text. schedule_of text.items ≡ Ok rows.now) }
+{
+    let text = rows_text(alloc, rows)?;
+    Ok(text)
 }

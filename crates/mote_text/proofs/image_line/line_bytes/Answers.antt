@@ -1,5 +1,4 @@
-use Rattle.std.proofs.Common.{◌≡◌, ◌∙◌, sym, ap, List, ℕ, [], length, arith, Some}
-use Rattle.mote_text.specs.ImageLines.{spaced_bytes}
+use Rattle.std.proofs.Common.{◌≡◌, ◌∙◌, sym, ap, length, arith}
 use Rattle.mote_text.proofs.ImageBytes.{finished, at_end, nothing_left}
 use Rattle.mote_text.proofs.image_line.line_bytes.Goals as goal
 

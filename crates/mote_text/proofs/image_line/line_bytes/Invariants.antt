@@ -1,4 +1,4 @@
-use Rattle.std.proofs.Common.{◌≡◌, ℕ, ◌≤◌, length}
+use Rattle.std.proofs.Common.{◌≡◌, ◌≤◌, length}
 use Rattle.mote_text.specs.ImageLines.{line_bytes, spaced_bytes}
 use Rattle.mote_text.proofs.ImageBytes.{finished}
 use Rattle.mote_text.proofs.image_line.line_bytes.Given as goal

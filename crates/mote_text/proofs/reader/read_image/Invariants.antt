@@ -1,4 +1,4 @@
-use Rattle.std.proofs.Common.{◌≡◌, ℕ, length}
+use Rattle.std.proofs.Common.{◌≡◌, length}
 use Rattle.std.specs.Str.Lines.{lines}
 use Rattle.mote_text.specs.Lines.{read_lines}
 use Rattle.mote_text.specs.ImageLines.{image_of, image_step, memory_of}

@@ -1,4 +1,4 @@
-use Rattle.std.proofs.Common.{◌≡◌, ◌+◌, ◌∙◌, sym, refl, arith, ap, drop, length, None}
+use Rattle.std.proofs.Common.{◌+◌, ◌∙◌, sym, arith, ap, drop}
 use Rattle.std.proofs.lemmas.List.{drop_all}
 use Rattle.mote_text.specs.Cells.{cells_map}
 use Rattle.mote_text.specs.ImageLines.{stored}

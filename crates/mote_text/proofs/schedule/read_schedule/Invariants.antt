@@ -1,4 +1,4 @@
-use Rattle.std.proofs.Common.{◌≡◌, ℕ, Some, length}
+use Rattle.std.proofs.Common.{◌≡◌, Some, length}
 use Rattle.std.specs.Str.Lines.{lines}
 use Rattle.mote_text.specs.Lines.{read_lines}
 use Rattle.mote_text.specs.ScheduleText.{schedule_of, schedule_step}

@@ -1,6 +1,6 @@
 use Rattle.std.proofs.Common.{◌≡◌, ◌++◌, drop, string_bytes}
 use Rattle.mote_text.specs.ScheduleText.{schedule_text}
-use Rattle.mote_text.proofs.schedule.print_schedule.Given as goal
+use Rattle.mote_text.proofs.schedule.rows_text.Given as goal
 
 -- with the rows to come, the text is that of all
 abbrev pub invariant-loop-due : goal.invariant-loop-due
