@@ -27,3 +27,5 @@ pub use trace::{End, Event};
 
 #[cfg(test)]
 mod tests;
+#[cfg(test)]
+mod text_tests;
