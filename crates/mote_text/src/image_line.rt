@@ -36,7 +36,8 @@ fn section_address(digits: &[u8]) -> Option<u16>
 #[tactic(auto, unfolding(crate::specs::ImageLines::spaced_bytes))]
 fn front_byte(text: &[u8]) -> Option<(u8, &[u8])>
     requires { 0 < length text.now }
-    ensures value { spaced_bytes text.now ≡ option_and_then (λ x. option_map (λ bs. x.0 ∷ bs) (spaced_bytes x.1.now)) result }
+    ensures value { spaced_bytes text.now
+        ≡ option_and_then (λ x. option_map (λ bs. x.0 ∷ bs) (spaced_bytes x.1.now)) result }
     ensures shorter { IfSome result (λ x. length x.1.now < length text.now) }
 {
     if text.len() < 2 {

@@ -13,7 +13,8 @@ use std::alloc::AllocError;
 
 /// Puts the TI-TXT form of an image behind a text. After an error some of it may stand there.
 pub fn push_image(text: &mut String, image: &Image) -> Result<(), AllocError>
-    ensures { OnOk result (string_bytes text.new ≡ string_bytes text.old ++ image_text image.now.code.items image.now.vectors) }
+    ensures { OnOk result (string_bytes text.new
+        ≡ string_bytes text.old ++ image_text image.now.code.items image.now.vectors) }
 {
     text.push_str("@4000\n")?;
     push_words(text, &image.code)?;
@@ -105,7 +106,8 @@ fn write_words<S: Sink>(out: &mut S, words: &[u16]) -> Result<(), WriteFault>
 // A section's address, and its words.
 fn write_section<S: Sink>(out: &mut S, address: &[u8], words: &[u16]) -> Result<(), WriteFault>
     ensures ok { OnOk result (S.taken out.new ≡ appended (S.taken out.old) (address.now ++ words_from 0 words.now)) }
-    ensures err { OnErr result (AppendsPart (S.taken out.old) (S.taken out.new) (address.now ++ words_from 0 words.now)) }
+    ensures err { OnErr result
+        (AppendsPart (S.taken out.old) (S.taken out.new) (address.now ++ words_from 0 words.now)) }
     ensures cause { OnErr result (Rose (S.faults out.old) (S.faults out.new)) }
     ensures kept { S.faults out.old ≤ S.faults out.new }
 {
@@ -115,8 +117,10 @@ fn write_section<S: Sink>(out: &mut S, address: &[u8], words: &[u16]) -> Result<
 
 /// Writes the TI-TXT form of an image. After a fault the beginning of it was taken, and the sink's faults rose.
 pub fn print_image<S: Sink>(image: &Image, out: &mut S) -> Result<(), WriteFault>
-    ensures ok { OnOk result (S.taken out.new ≡ appended (S.taken out.old) (image_text image.now.code.items image.now.vectors)) }
-    ensures err { OnErr result (AppendsPart (S.taken out.old) (S.taken out.new) (image_text image.now.code.items image.now.vectors)) }
+    ensures ok { OnOk result (S.taken out.new
+        ≡ appended (S.taken out.old) (image_text image.now.code.items image.now.vectors)) }
+    ensures err { OnErr result
+        (AppendsPart (S.taken out.old) (S.taken out.new) (image_text image.now.code.items image.now.vectors)) }
     ensures cause { OnErr result (Rose (S.faults out.old) (S.faults out.new)) }
     ensures kept { S.faults out.old ≤ S.faults out.new }
 {

@@ -25,7 +25,8 @@ struct Reader {
 
 // Stores bytes from an address on; the address behind them.
 fn store(cells: &mut Cells, address: u32, bytes: &[u8]) -> Option<u32>
-    ensures { option_map (λ a. (a, cells_map cells.new.bytes.items)) result ≡ stored (cells_map cells.old.bytes.items) address bytes.now }
+    ensures { option_map (λ a. (a, cells_map cells.new.bytes.items)) result
+        ≡ stored (cells_map cells.old.bytes.items) address bytes.now }
 {
     let mut address = address;
     for byte in bytes {
@@ -66,9 +67,9 @@ impl Reader {
     }
 }
 
-/// The bytes that a TI-TXT text names; those that it does not name are 0. `BadImage` names the first line that is refused:
-/// one of no form of a line, bytes before the first address, past 0xFFFF or at an address that has one, and what stands
-/// behind `q`; where `q` is missing, the line after the last.
+/// The bytes that a TI-TXT text names; those that it does not name are 0. `BadImage` has the first line that is
+/// refused: one of no form of a line, bytes before the first address, past 0xFFFF or at an address that has one, and
+/// what stands behind `q`; where `q` is missing, the line after the last.
 #[tactic(auto, unfolding(crate::specs::ImageLines::image_of))]
 pub fn read_image(alloc: Global, text: &[u8]) -> Result<Loaded, TextFault>
     ensures read { IfOk result (λ l. image_of text.now ≡ Ok (bytes_map l)) }

@@ -56,9 +56,10 @@ fn next_due(last: u32, line: &[u8]) -> Option<Due>
     if last <= due.slot { Some(due) } else { None }
 }
 
+/// The rows of a schedule. Lines are `SLOT arrive DEVICE VALUE` with decimal numbers, comments behind `#`, or blank;
+/// slots do not fall. `BadSchedule` has the first line that is refused; `Limit` comes where none is and there are more
+/// than 100,000 rows.
 #[tactic(auto, unfolding(crate::specs::ScheduleText::schedule_of))]
-/// The rows of a schedule. Lines are `SLOT arrive DEVICE VALUE` with decimal numbers, comments after `#`, or blank; slots do
-/// not fall. `BadSchedule` names the first line that is refused; `Limit` comes where none is and there are too many rows.
 pub fn read_schedule(alloc: Global, text: &[u8]) -> Result<Vec<Due>, TextFault>
     ensures read { IfOk result (λ rows. schedule_of text.now ≡ Ok rows.items) }
     ensures few { IfOk result (λ rows. length rows.items ≤ 100000) }

@@ -6,8 +6,8 @@ ghost use Rattle.mote_text.specs.declared.text_fault.TextFault.TheVariants.{NoMe
 use nm_base::Limit;
 use std::alloc::{AllocError, AllocFailed};
 
-/// Why a text was not read: the first line of an image or of a schedule that is refused, numbered from 1, too many rows,
-/// or no memory.
+/// Why a text was not read: the first line of an image or of a schedule that is refused, numbered from 1, too many
+/// rows, or no memory.
 #[derive(Clone, Copy, Debug, PartialEq, Eq)]
 pub enum TextFault {
     BadImage(u32),
