@@ -1,3 +1,11 @@
 pub mod Hex
+pub mod Lines
 pub mod ImageText
+pub mod ImageLines
+pub mod ScheduleText
 pub mod TraceText
+pub mod TraceWords
+pub mod Cells
+pub mod Parsed
+pub mod Answers
+pub mod TextRows

@@ -21,17 +21,23 @@ fn lower_digit(digit: u16) -> u8
     }
 }
 
+/// The four lower-case digits of a word.
+pub(crate) fn hex_digits(word: u16) -> [u8; 4]
+    ensures { result ≡ hex_word word }
+{
+    [
+        lower_digit(word / 0x1000),
+        lower_digit(word / 0x100 % 16),
+        lower_digit(word / 0x10 % 16),
+        lower_digit(word % 16),
+    ]
+}
+
 impl fmt::Display for HexWord {
     ghost output = { λ word. Some (hex_word word.0) };
 
     fn fmt<W: fmt::Write>(&self, f: &mut fmt::Formatter<W>) -> fmt::Result {
-        let word = self.0;
-        let digits = [
-            lower_digit(word / 0x1000),
-            lower_digit(word / 0x100 % 16),
-            lower_digit(word / 0x10 % 16),
-            lower_digit(word % 16),
-        ];
+        let digits = hex_digits(self.0);
         f.write_str(str::from_utf8(&digits).map_err(|_| fmt::Error)?)
     }
 }

@@ -1,14 +1,31 @@
 //! The texts of images and traces.
 #![tactic(auto)]
 
+mod cells;
+mod event_line;
 mod hex;
+mod image_line;
 mod image_text;
+mod laws;
+mod lines;
 mod loaded;
+mod reader;
+mod rows;
+mod schedule;
+mod text_fault;
 mod trace;
 
-pub use image_text::push_image;
+pub use event_line::{print_event, read_event};
+pub use image_text::{print_image, push_image};
+pub use laws::{line_tells_event, schedule_reads_back};
 pub use loaded::{Loaded, load_image};
+pub use reader::read_image;
+pub use rows::worked_rows;
+pub use schedule::{print_schedule, read_schedule};
+pub use text_fault::TextFault;
 pub use trace::{End, Event};
 
 #[cfg(test)]
 mod tests;
+#[cfg(test)]
+mod text_tests;

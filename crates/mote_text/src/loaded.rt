@@ -25,6 +25,13 @@ impl Model for Loaded {
 }
 
 impl Loaded {
+    pub(crate) fn from_bytes(bytes: Vec<u8>) -> Loaded
+        requires { length bytes.items ≡ 49152 }
+        ensures { result ≡ bytes.items }
+    {
+        Loaded { bytes }
+    }
+
     /// The 49,152 bytes in their order.
     pub fn bytes(&self) -> &[u8]
         ensures value { result.now ≡ self.now }
