@@ -1,16 +1,10 @@
 pub mod Causes
 pub mod Cutting
 pub mod Early
-pub mod MoteRows
-pub mod MoteSlots
-pub mod MoteTrace
 pub mod Numerals
 pub mod Ports
-pub mod Seen
 pub mod Slots
 pub mod Statements
-pub mod Told
 pub mod Trace
 pub mod WordLists
-pub mod Writing
 pub mod Writable

@@ -4,6 +4,5 @@ pub mod Status
 pub mod RunText
 pub mod Output
 pub mod MoteState
-pub mod MoteRun
 pub mod Content
 pub mod Compiled

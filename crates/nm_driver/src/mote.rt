@@ -13,13 +13,15 @@ ghost use Rattle.nm_driver.specs.RunText.{trace_text};
 ghost use Rattle.nm_driver.specs.MoteState.{Follows, joined_of, forgotten, new_events, slot_events};
 ghost use Rattle.msp430_cpu.specs.Cpu.{cpuoff};
 
-use crate::stepped::{ILLEGAL, instructions, is_stop};
 use mote_devices::{Controller, Shown};
 use mote_text::{End, Event, load_image};
 use msp_isa::Image;
 use msp430_cpu::{Bus, Cpu, MemoryBus, Stepped};
 use nm_base::NoMemory;
 use std::alloc::{AllocError, Global};
+
+// What a step that meets no instruction stops with.
+const ILLEGAL: u16 = 256;
 
 /// A mote without devices. `slots` of them were run, `ran` of these ran an instruction, and `least` is the least SP
 /// after any of them.
@@ -119,6 +121,23 @@ pub(crate) fn push_trace(
     let end = mote.end();
     write!(text, "{end}\n")?;
     Ok(())
+}
+
+// How many instructions a step ran.
+fn instructions(stepped: Stepped) -> u32
+    ensures { result ≡ counts stepped }
+{
+    match stepped {
+        Stepped::Stopped(code) if code >= ILLEGAL => 0,
+        Stepped::Ran | Stepped::Stopped(_) => 1,
+        Stepped::Idle | Stepped::Entered(_) => 0,
+    }
+}
+
+fn is_stop(stepped: Stepped) -> bool
+    ensures { result ≡ is_stopped stepped }
+{
+    matches!(stepped, Stepped::Stopped(_))
 }
 
 fn push_event(text: &mut String, slot: u32, shown: Shown) -> Result<(), AllocError>
