@@ -38,11 +38,11 @@ impl Device for SmallLeds {
         }
     }
 
+    fn ack(&mut self) {}
+
     fn pending(&self) -> bool {
         false
     }
-
-    fn ack(&mut self) {}
 }
 
 #[test]
