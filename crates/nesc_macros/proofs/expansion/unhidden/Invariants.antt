@@ -1,0 +1,6 @@
+use Rattle.std.proofs.Common.{◌≡◌}
+use Rattle.nesc_macros.specs.Expansion.{unhidden}
+use Rattle.nesc_macros.proofs.expansion.unhidden.Given as goal
+
+abbrev pub invariant-loop-token : goal.invariant-loop-token
+invariant-loop-token l = l.all.items ≡ unhidden l.yielded

@@ -1,0 +1,5 @@
+pub mod Invocation
+pub mod Expansion
+pub mod Rows
+pub mod Code
+pub mod Frames

@@ -1,0 +1,65 @@
+//! The expansion of a list of tokens.
+
+ghost use Rattle.std.specs.Prelude.{◌≡◌, ◌≤◌, IfOk, IfErr, Ok};
+ghost use Rattle.nesc_macros.specs.Expansion.{ExpandsTo, FailsTo, IsExpansionFault, tokens_of, unhidden};
+
+use crate::definition::{Macro, PreprocessingToken};
+use crate::frames::{Level, expand_token, resume};
+use crate::hide_set::HideSet;
+use nm_base::{Fault, List, NoMemory, Token};
+use std::alloc::Global;
+use std::collections::VecDeque;
+
+// The tokens of a text, which hide nothing.
+fn unhidden(alloc: Global, tokens: Vec<Token>) -> Result<VecDeque<PreprocessingToken>, NoMemory>
+    ensures { IfOk result (λ all. all.items ≡ unhidden tokens.items) }
+{
+    let nothing = HideSet::new(alloc, Vec::new(alloc))?;
+    let mut all = VecDeque::new(alloc);
+    for token in tokens {
+        all.push_back(PreprocessingToken {
+            token,
+            hide_set: nothing.clone()?,
+        })?;
+    }
+    Ok(all)
+}
+
+fn tokens_of(alloc: Global, expanded: Vec<PreprocessingToken>) -> Result<Vec<Token>, NoMemory>
+    ensures { IfOk result (λ all. all.items ≡ tokens_of expanded.items) }
+{
+    Ok(expanded.into_iter().map(|part| part.token).collect(alloc)?)
+}
+
+/// Expands a list of tokens. `count` is the number of tokens that were put before the scan; the replacements add theirs, also
+/// where the call is refused. Refused are a use of a macro that does not fit it (E04, at its name) and one token more than
+/// `MAX_TOKENS`.
+pub fn expand_list(
+    alloc: Global,
+    macros: &[Macro],
+    count: &mut u32,
+    tokens: Vec<Token>,
+) -> Result<Vec<Token>, Fault>
+    requires within { count.old ≤ 1000000 }
+    ensures within { count.new ≤ 1000000 }
+    ensures grows { count.old ≤ count.new }
+    ensures expanded { IfOk result (λ v. ExpandsTo macros.now count.old tokens.items (record { value = Ok v.items; count = count.new })) }
+    ensures refused { IfErr result (λ e. FailsTo macros.now count.old tokens.items e count.new) }
+    ensures kinds { IfErr result IsExpansionFault }
+{
+    let mut frames = VecDeque::new(alloc);
+    let mut level = Level {
+        out: Vec::new(alloc),
+        pending: unhidden(alloc, tokens)?,
+    };
+    loop {
+        if let Some(token) = level.pending.pop_front() {
+            level = expand_token(alloc, macros, count, &mut frames, level, token)?;
+        } else if let Some(mut frame) = frames.pop_front() {
+            frame.expanded.push(List::new(level.out))?;
+            level = resume(alloc, count, &mut frames, frame)?;
+        } else {
+            return Ok(tokens_of(alloc, level.out)?);
+        }
+    }
+}
