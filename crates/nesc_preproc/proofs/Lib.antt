@@ -1,0 +1,12 @@
+pub mod Asking
+pub mod Closing
+pub mod Finding
+pub mod Obeying
+pub mod Opening
+pub mod Parameters
+pub mod Scanning
+pub mod Settling
+pub mod Sizes
+pub mod Stepping
+pub mod Whole
+pub mod OneExpansion

@@ -1,0 +1,105 @@
+-- What a `#define` line defines, and which file an `#include` line names (C99 6.10.2, 6.10.3; own: no operators `#` and
+-- `##`, no variable arguments, file names taken as they are spelled).
+use Rattle.std.specs.Prelude.{◌+◌, ◌-◌, Bool, true, false, not, ◌&&◌, ◌||◌, List, [], ◌∷◌, ◌++◌, nat_eq, codes, length, take, drop, filter, Option, Some, None}
+use Rattle.std.specs.List.{list_any}
+use Rattle.nm_base.specs.declared.token.Kind.TheVariants.{Text}
+use Rattle.nm_base.specs.declared.token.Token.{Token}
+use Rattle.nesc_macros.specs.declared.definition.Macro.{Macro}
+use Rattle.nesc_preproc.specs.declared.definitions.NextParameter.{NextParameter}
+use Rattle.nesc_preproc.specs.declared.definitions.NextParameter.TheVariants.{Malformed, Last, More}
+use Rattle.nesc_macros.specs.Invocation.{Name, same_name, is_among, is_word, is_sign}
+
+-- nothing stands between the two
+abbrev pub touches : Token → Token → Bool
+touches a b = nat_eq a.pos.line b.pos.line && nat_eq (a.pos.col + length a.text) b.pos.col
+
+abbrev pub is_hash : Token → Bool
+is_hash = is_sign (codes "#")
+
+abbrev pub has_hash : List Token → Bool
+has_hash = list_any is_hash
+
+-- `##`
+abbrev pub has_paste : List Token → Bool
+has_paste [] = false
+has_paste (t ∷ []) = false
+has_paste (t ∷ u ∷ ts) = (is_hash t && (is_hash u && touches t u)) || has_paste (u ∷ ts)
+
+abbrev pub with_replacement : Bool → Name → Option (List Name) → List Token → Option Macro
+with_replacement true name parameters ts = None
+with_replacement false name parameters ts = Some (record { name = name; parameters = parameters; replacement = ts })
+
+abbrev pub object_like : Name → List Token → Option Macro
+object_like name ts = with_replacement (has_paste ts) name None ts
+
+abbrev pub function_like : Name → List Name → List Token → Option Macro
+function_like name parameters ts = with_replacement (has_hash ts) name (Some parameters) ts
+
+abbrev pub closes_or_goes_on : Bool → Bool → NextParameter
+closes_or_goes_on true comma = Last
+closes_or_goes_on false true = More
+closes_or_goes_on false false = Malformed
+
+abbrev pub next_by : Bool → Bool → Bool → NextParameter
+next_by false close comma = Malformed
+next_by true close comma = closes_or_goes_on close comma
+
+-- what the word p is behind these parameters, and before the sign s
+abbrev pub next_parameter : List Name → Token → Token → NextParameter
+next_parameter before p s = next_by (is_word p && not (is_among before p.text)) (is_sign (codes ")") s) (is_sign (codes ",") s)
+
+-- a parameter list up to its closing parenthesis, behind these parameters: words that differ, with commas between them
+abbrev pub parameters_of : Name → List Name → List Token → Option Macro
+parameters_of name before [] = None
+parameters_of name before (p ∷ []) = None
+parameters_of name before (p ∷ s ∷ ts) =
+    elim (next_parameter before p s) [
+      | Malformed ↦ None
+      | Last ↦ function_like name (before ++ p.text ∷ []) ts
+      | More ↦ parameters_of name (before ++ p.text ∷ []) ts
+    ]
+
+-- behind the opening parenthesis
+abbrev pub with_parameters : Name → List Token → Option Macro
+with_parameters name [] = None
+with_parameters name (t ∷ ts) = elim (is_sign (codes ")") t) [ true ↦ function_like name [] ts | false ↦ parameters_of name [] (t ∷ ts) ]
+
+abbrev pub defined_behind : Token → List Token → Option Macro
+defined_behind name [] = object_like name.text []
+defined_behind name (t ∷ ts) = elim (is_sign (codes "(") t && touches name t) [ true ↦ with_parameters name.text ts | false ↦ object_like name.text (t ∷ ts) ]
+
+-- the macro of the line behind `#define`
+abbrev pub defined_by : List Token → Option Macro
+defined_by [] = None
+defined_by (name ∷ ts) = elim (is_word name) [ true ↦ defined_behind name ts | false ↦ None ]
+
+abbrev pub without : Name → List Macro → List Macro
+without name = filter (λ (m : Macro). not (same_name m.name name))
+
+-- the one word of a line
+abbrev pub only_word : List Token → Option Name
+only_word (t ∷ []) = elim (is_word t) [ true ↦ Some t.text | false ↦ None ]
+only_word _ = None
+
+-- the spellings up to `>`, which is the last token of the line
+abbrev pub angled : Name → List Token → Option Name
+angled before [] = None
+angled before (t ∷ ts) =
+    elim (is_sign (codes ">") t) [
+      | true ↦ elim ts [ [] ↦ Some before | ◌∷◌ _ _ ↦ None ]
+      | false ↦ angled (before ++ t.text) ts
+    ]
+
+-- the name in a text literal that is the whole line
+abbrev pub quoted : Token → List Token → Option Name
+quoted t [] = Some (take (length t.text - 2) (drop 1 t.text))
+quoted t (_ ∷ _) = None
+
+-- the file of the line behind `#include`
+abbrev pub included_by : List Token → Option Name
+included_by [] = None
+included_by (t ∷ ts) =
+    elim (t.kind) [
+      | Text ↦ quoted t ts
+      | _ ↦ elim (is_sign (codes "<") t) [ true ↦ angled [] ts | false ↦ None ]
+    ]

@@ -1,0 +1,13 @@
+pub mod Lines
+pub mod Definitions
+pub mod BuiltIn
+pub mod Sources
+pub mod Kept
+pub mod Conditionals
+pub mod Obeyed
+pub mod Scanned
+pub mod Expands
+pub mod Answers
+pub mod Scan
+pub mod Rows
+pub mod OneExpansion
