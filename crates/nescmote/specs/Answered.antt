@@ -1,7 +1,9 @@
 -- What the process ends with, and what it has written (own).
 use Rattle.std.specs.Prelude.{◌≡◌, ℕ, List, Option}
-use Rattle.nm_driver.specs.Output.{AreRunWords, IsUsageOrLess, Told, Wrote}
+use Rattle.nesc_preproc.specs.Expands.{Told}
+use Rattle.nm_driver.specs.Output.{IsUsageOrLess, Wrote}
 use Rattle.nm_driver.specs.Status.{status_code}
+use Rattle.nm_driver.specs.Words.{AreRunWords}
 use Rattle.nm_driver.specs.declared.status.Status.{Status}
 use Rattle.nm_driver.specs.declared.status.Status.TheVariants.{Usage}
 

@@ -1,8 +1,9 @@
 pub mod Causes
-pub mod Cutting
 pub mod Early
 pub mod Numerals
 pub mod Ports
+pub mod Reading
+pub mod Requests
 pub mod Slots
 pub mod Statements
 pub mod Trace

@@ -10,7 +10,7 @@ use Rattle.core_meaning.specs.BootBody.{WrittenConstant}
 use Rattle.core_meaning.specs.ConstantWrites.{IsWrite}
 use Rattle.core_meaning.specs.declared.PortWrite.{PortWrite}
 use Rattle.nm_driver.specs.declared.form.Constant.{Constant}
-use Rattle.nm_driver.specs.Tokens.{tokens_of, is_letter, is_word_byte}
+use Rattle.nm_driver.specs.Tokens.{is_letter, is_word_byte}
 
 -- one digit or more of this base, for a number of 16 bits
 abbrev pub is_numeral : ℕ → List ℕ → Bool
@@ -77,13 +77,6 @@ keywords =
 abbrev pub is_name : List ℕ → Bool
 is_name word = is_letter (slice_index word 0) && list_all is_word_byte word && not (list_any (λ k. pointwise nat_eq k word) keywords)
 
--- the components and interfaces whose texts are built in: the files are not asked for them, and none has the form
-unfoldable pub built_in : List (List ℕ)
-built_in = codes "Boot" ∷ codes "Init" ∷ codes "MainC" ∷ []
-
-abbrev pub is_built_in : List ℕ → Bool
-is_built_in app = list_any (λ k. pointwise nat_eq k app) built_in
-
 -- these tokens are the statements of these writes
 pub record AreStatements (tokens : List (List ℕ)) (writes : List Constant) : Type 0 where
   pub written : List Written
@@ -91,11 +84,11 @@ pub record AreStatements (tokens : List (List ℕ)) (writes : List Constant) : T
   pub spelled : tokens ≡ flat_map statement written
   pub these : writes ≡ map (λ w. w.write) written
 
--- the text of the file of a module APP that makes these writes
-pub record HasForm (app text : List ℕ) (writes : List Constant) : Type 0 where
+-- the spellings of the file of a module APP that makes these writes
+pub record HasForm (app : List ℕ) (tokens : List (List ℕ)) (writes : List Constant) : Type 0 where
   pub name : is_name app ≡ true
   pub body : List (List ℕ)
-  pub tokens : tokens_of text ≡ Some (head app ++ (body ++ tail))
+  pub whole : tokens ≡ head app ++ (body ++ tail)
   pub statements : AreStatements body writes
   pub few : length writes ≤ 200
 

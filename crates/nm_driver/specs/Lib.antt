@@ -2,6 +2,8 @@ pub mod Tokens
 pub mod Form
 pub mod Status
 pub mod RunText
+pub mod Words
+pub mod Lines
 pub mod Output
 pub mod MoteState
 pub mod Content

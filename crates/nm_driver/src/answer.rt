@@ -1,103 +1,115 @@
 //! Answers with their one line.
 
-ghost use Rattle.std.specs.Prelude.{◌≡◌, ◌++◌, ◌∷◌, [], List, ℕ, codes, decimal, string_bytes, IfOk, OnOk};
-ghost use Rattle.nm_driver.specs.Output.{detail, later, refusal_text};
+ghost use Rattle.std.specs.Prelude.{◌≡◌, ◌++◌, ◌∷◌, [], IfOk, OnOk, codes};
+ghost use Rattle.nm_driver.specs.Lines.{detail, fault_line, limit_text, number_text, place_text, refusal_text, room_text, schedule_line, usage_line};
 
 use crate::status::Status;
-use nm_base::{Left, Name, NoMemory, Pos, Refusal};
-use std::alloc::{AllocError, Global};
-
-// The prelude is the first file that is read.
-const APPLICATION: u32 = 1;
+use nm_base::{Fault, Limit, NoMemory, Refusal, Room};
+use std::alloc::Global;
 
 /// What is to be answered, and the text that goes with it.
 #[derive(Drop)]
 pub(crate) struct Answer {
     pub status: Status,
-    pub text: String,
+    pub text: Vec<u8>,
 }
 
-pub(crate) fn usage(alloc: Global) -> Result<Answer, NoMemory>
-    ensures { IfOk result (λ a. (a.status ≡ Status.Usage) × (string_bytes a.text ≡ codes "usage: nescmote MODE APP [SCHEDULE] [--budget N]" ++ 10 ∷ [])) }
-{
-    Ok(Answer {
-        status: Status::Usage,
-        text: String::from_str(alloc, "usage: nescmote MODE APP [SCHEDULE] [--budget N]\n")?,
-    })
-}
-
-pub(crate) fn read_fault(alloc: Global) -> Result<Answer, NoMemory>
-    ensures { IfOk result (λ a. (a.status ≡ Status.ReadFault) × (string_bytes a.text ≡ codes "read fault" ++ 10 ∷ [])) }
-{
-    Ok(Answer {
-        status: Status::ReadFault,
-        text: String::from_str(alloc, "read fault\n")?,
-    })
-}
-
-/// No file has this name.
-pub(crate) fn missing(alloc: Global, name: &str) -> Result<Answer, NoMemory>
-    ensures { IfOk result (λ a. (a.status ≡ Status.Missing name.now) × (string_bytes a.text ≡ codes "missing " ++ (name.now ++ 10 ∷ []))) }
-{
-    Ok(Answer {
-        status: Status::Missing(Name::new(alloc, name.as_bytes())?),
-        text: format!(in alloc; "missing {name}\n")?,
-    })
-}
-
-/// The application's file has not the form that is built.
-pub(crate) fn refused_later(alloc: Global, file: &str) -> Result<Answer, NoMemory>
-    ensures { IfOk result (λ a. (a.status ≡ Status.Refused later) × (string_bytes a.text ≡ refusal_text file.now later ++ 10 ∷ [])) }
-{
-    let refusal = Refusal::LeftOut(
-        Pos {
-            file: APPLICATION,
-            line: 1,
-            col: 1,
-        },
-        Left::Later,
-    );
-    let text = refusal_line(alloc, file, &refusal)?;
-    Ok(Answer {
-        status: Status::Refused(refusal),
-        text,
-    })
-}
-
-/// The schedule's first refused line.
-pub(crate) fn schedule_line(alloc: Global, line: u32) -> Result<Answer, NoMemory>
-    ensures { IfOk result (λ a. (a.status ≡ Status.BadSchedule line) × (string_bytes a.text ≡ codes "schedule line " ++ (decimal line ++ 10 ∷ []))) }
-{
-    Ok(Answer {
-        status: Status::BadSchedule(line),
-        text: format!(in alloc; "schedule line {line}\n")?,
-    })
-}
-
-fn refusal_line(alloc: Global, file: &str, refusal: &Refusal) -> Result<String, NoMemory>
-    ensures { IfOk result (λ text. string_bytes text ≡ refusal_text file.now refusal.now ++ 10 ∷ []) }
+fn number_text(alloc: Global, refusal: &Refusal) -> Result<Vec<u8>, NoMemory>
+    ensures { IfOk result (λ v. v.items ≡ number_text refusal.now) }
 {
     let number = refusal.number();
     let tens = number / 10;
     let ones = number % 10;
+    let text = format!(in alloc; "refused E{tens}{ones} ")?;
+    Ok(text.as_bytes().to_vec(alloc)?)
+}
+
+fn push_place(alloc: Global, text: &mut Vec<u8>, refusal: &Refusal) -> Result<(), NoMemory>
+    ensures { OnOk result (text.new.items ≡ text.old.items ++ place_text refusal.now) }
+{
     let pos = refusal.pos();
     let line = pos.line;
     let column = pos.col;
-    let mut text = format!(in alloc; "refused E{tens}{ones} {file}:{line}:{column}")?;
-    push_detail(&mut text, refusal)?;
-    text.push_str("\n")?;
-    Ok(text)
+    let place = format!(in alloc; ":{line}:{column}")?;
+    text.extend_from_slice(place.as_bytes())?;
+    Ok(())
 }
 
 // The word of a form that is left out.
-fn push_detail(text: &mut String, refusal: &Refusal) -> Result<(), AllocError>
-    ensures { OnOk result (string_bytes text.new ≡ string_bytes text.old ++ detail refusal.now) }
+fn push_detail(text: &mut Vec<u8>, refusal: &Refusal) -> Result<(), NoMemory>
+    ensures { OnOk result (text.new.items ≡ text.old.items ++ detail refusal.now) }
 {
-    match refusal {
-        Refusal::LeftOut(_, left) => {
-            text.push_str(" ")?;
-            text.push_str(left.word())
-        }
-        _ => Ok(()),
+    if let Refusal::LeftOut(_, left) = refusal {
+        text.push(b' ')?;
+        text.extend_from_slice(left.word().as_bytes())?;
     }
+    Ok(())
+}
+
+fn refusal_line(alloc: Global, file: &[u8], refusal: &Refusal) -> Result<Vec<u8>, NoMemory>
+    ensures { IfOk result (λ v. v.items ≡ refusal_text file.now refusal.now ++ 10 ∷ []) }
+{
+    let mut text = number_text(alloc, refusal)?;
+    text.extend_from_slice(file)?;
+    push_place(alloc, &mut text, refusal)?;
+    push_detail(&mut text, refusal)?;
+    text.push(b'\n')?;
+    Ok(text)
+}
+
+fn missing_line(alloc: Global, name: &[u8]) -> Result<Vec<u8>, NoMemory>
+    ensures { IfOk result (λ v. v.items ≡ codes "missing " ++ (name.now ++ 10 ∷ [])) }
+{
+    let mut text = b"missing ".to_vec(alloc)?;
+    text.extend_from_slice(name)?;
+    text.push(b'\n')?;
+    Ok(text)
+}
+
+fn limit_line(alloc: Global, limit: &Limit) -> Result<Vec<u8>, NoMemory>
+    ensures { IfOk result (λ v. v.items ≡ limit_text limit.now) }
+{
+    let name = limit.which.name();
+    let have = limit.have;
+    let text = format!(in alloc; "limit {name} {have}\n")?;
+    Ok(text.as_bytes().to_vec(alloc)?)
+}
+
+fn room_line(alloc: Global, room: Room, need: u32) -> Result<Vec<u8>, NoMemory>
+    ensures { IfOk result (λ v. v.items ≡ room_text room need) }
+{
+    let text = match room {
+        Room::Code => format!(in alloc; "too large code {need} of 49120\n")?,
+        Room::Ram => format!(in alloc; "too large ram {need} of 10240\n")?,
+    };
+    Ok(text.as_bytes().to_vec(alloc)?)
+}
+
+/// The line of a fault, where a refusal stands in this file.
+pub(crate) fn fault_line(alloc: Global, file: &[u8], fault: &Fault) -> Result<Vec<u8>, NoMemory>
+    ensures { IfOk result (λ v. v.items ≡ fault_line file.now fault.now) }
+{
+    match fault {
+        Fault::Refused(refusal) => refusal_line(alloc, file, refusal),
+        Fault::Missing(name) => missing_line(alloc, name.as_bytes()),
+        Fault::ReadFault => Ok(b"read fault\n".to_vec(alloc)?),
+        Fault::Limit(limit) => limit_line(alloc, limit),
+        Fault::TooLarge(room, need) => room_line(alloc, *room, *need),
+        Fault::NoMemory => Ok(Vec::new(alloc)),
+    }
+}
+
+/// The line for words that are not in use.
+pub(crate) fn usage_line(alloc: Global) -> Result<Vec<u8>, NoMemory>
+    ensures { IfOk result (λ v. v.items ≡ usage_line) }
+{
+    Ok(b"usage: nescmote MODE APP [SCHEDULE] [--budget N]\n".to_vec(alloc)?)
+}
+
+/// The line of a schedule's first refused line.
+pub(crate) fn schedule_line(alloc: Global, line: u32) -> Result<Vec<u8>, NoMemory>
+    ensures { IfOk result (λ v. v.items ≡ schedule_line line) }
+{
+    let text = format!(in alloc; "schedule line {line}\n")?;
+    Ok(text.as_bytes().to_vec(alloc)?)
 }

@@ -5,10 +5,10 @@ ghost use Rattle.std.specs.List.{list_all, list_any, flat_map, AllByRecursion};
 ghost use Rattle.std.specs.Cmp.Lexicographic.{pointwise};
 ghost use Rattle.nm_driver.specs.Tokens.{is_letter, is_word_byte};
 ghost use Rattle.nm_driver.specs.declared.form.Constant.{Constant};
-ghost use Rattle.nm_driver.specs.Form.{AreStatements, HasForm, IsWritten, Written, head, is_built_in, is_device_port, is_name, keywords, statement, tail};
+ghost use Rattle.nm_driver.specs.Form.{AreStatements, HasForm, IsWritten, Written, head, is_device_port, is_name, keywords, statement, tail};
 
 use crate::number::{is_hexadecimal, number};
-use crate::tokens::{is_letter, is_word_byte, tokens_of};
+use crate::tokens::{is_letter, is_word_byte};
 use nm_base::{Name, NoMemory};
 use std::alloc::Global;
 
@@ -19,8 +19,6 @@ pub(crate) struct Constant {
     pub value: u16,
     pub is_decimal: bool,
 }
-
-const BUILT_IN: [&str; 3] = ["Boot", "Init", "MainC"];
 
 const MOST_WRITES: usize = 200;
 
@@ -137,13 +135,6 @@ fn is_keyword(word: &str) -> bool
     KEYWORDS.contains(&word)
 }
 
-/// Whether the text of this component or interface is built in.
-pub(crate) fn is_built_in(app: &str) -> bool
-    ensures { result ≡ is_built_in app.now }
-{
-    BUILT_IN.contains(&app)
-}
-
 /// Whether a word may name a component.
 fn is_name(word: &str) -> bool
     ensures { result ≡ is_name word.now }
@@ -240,21 +231,18 @@ fn writes_in(alloc: Global, body: &[Name]) -> Result<Option<Vec<Constant>>, NoMe
     }
 }
 
-/// The writes of a text of the form; None exactly where the text has not the form.
+/// The writes of a file of the form, by its spellings; None exactly where it has not the form.
 pub(crate) fn writes_of(
     alloc: Global,
     app: &str,
-    text: &[u8],
+    tokens: &[Name],
 ) -> Result<Option<Vec<Constant>>, NoMemory>
-    ensures { IfOk result (λ o. MatchOption o ((ws : List Constant) → HasForm app.now text.now ws → ⊥) (λ v. HasForm app.now text.now v.items)) }
+    ensures { IfOk result (λ o. MatchOption o ((ws : List Constant) → HasForm app.now tokens.now ws → ⊥) (λ v. HasForm app.now tokens.now v.items)) }
 {
     if !is_name(app) {
         return Ok(None);
     }
-    let Some(tokens) = tokens_of(alloc, text)? else {
-        return Ok(None);
-    };
-    let Some(body) = body_of(app, &tokens) else {
+    let Some(body) = body_of(app, tokens) else {
         return Ok(None);
     };
     if body.len() > MOST_WRITES * STATEMENT {

@@ -7,10 +7,12 @@ mod form;
 mod mote;
 mod number;
 mod output;
+mod source;
 mod status;
 mod tokens;
 mod top_call;
 mod wired;
+mod words;
 
 pub use status::Status;
 pub use top_call::tool;

@@ -18,6 +18,12 @@ implementation {
 const TIGHT: &[u8] =
     b"\r\n\tmodule Tight{uses interface Boot;}implementation{event void Boot.booted(){port_write(0x15E,0xFfFf);port_write ( 288 , 0 ) ;}}";
 
+// The same writes, with comments between all tokens and the port named by a header's macro.
+const COMMENTED: &[u8] = b"#include \"port.h\"
+module/* the name */CommentedC/**/{//
+uses/**/interface/**/Boot/**/;/**/}/**/implementation/**/{/**/event/**/void/**/Boot/**/./**/booted/**/(/**/)/**/{/**/
+port_write/**/(/**/LED_PORT/**/,/**/5/**/)/**/;/**/port_write/**/(/**/LED_PORT/**/,/**/2/**/)/**/;/**/}/**/}/* the end */";
+
 const FIRST_RUN: &str = "races 0
 data 0
 stack 4
@@ -62,6 +68,11 @@ fn files(alloc: Global, fail: Vec<u32>) -> Result<MemFiles, NoMemory> {
         "Two.nc",
         b"module OneC { uses interface Boot; } implementation { event void Boot.booted() { } }",
     )?)?;
+    all.push(file(alloc, "CommentedC.nc", COMMENTED)?)?;
+    all.push(file(alloc, "port.h", b"#define LED_PORT 0x0120\n")?)?;
+    all.push(file(alloc, "LoopC.nc", b"\n#include \"loop.h\"\n")?)?;
+    all.push(file(alloc, "loop.h", b"/* again */\n #include \"loop.h\"\n")?)?;
+    all.push(file(alloc, "large.txt", &vec![in alloc; b'\n'; 262_145]?)?)?;
     all.push(file(alloc, "none.txt", b"")?)?;
     all.push(file(alloc, "some.txt", b"\n")?)?;
     Ok(MemFiles::new(all, fail))
@@ -91,7 +102,7 @@ fn answer(
 fn answers_with_its_text(rt: HostRuntime) -> Result<(), Fail> {
     let alloc = rt.alloc();
     let later = "refused E08 Odd.nc:1:1 later\n";
-    let cases: [(&[&str], u8, &str); 10] = [
+    let cases: [(&[&str], u8, &str); 18] = [
         (&["run", "OneC", "none.txt"], 0, FIRST_RUN),
         (&["run", "OneC"], 2, USAGE),
         (&["check", "OneC", "none.txt"], 2, USAGE),
@@ -114,6 +125,22 @@ fn answers_with_its_text(rt: HostRuntime) -> Result<(), Fail> {
             "refused E08 MainC.nc:1:1 later\n",
         ),
         (&["run", "OneC", "some.txt"], 6, "schedule line 1\n"),
+        (&["run", "OneC", "large.txt"], 7, "limit file 262145\n"),
+        (&["run", "CommentedC", "none.txt"], 0, FIRST_RUN),
+        (&["run", "LoopC", "none.txt"], 1, "refused E05 loop.h:2:2\n"),
+        (
+            &["run", "OneC", "none.txt", "--budget", "10000"],
+            0,
+            FIRST_RUN,
+        ),
+        (
+            &["run", "OneC", "none.txt", "--budget", "1000001"],
+            2,
+            USAGE,
+        ),
+        (&["run", "OneC", "none.txt", "--budget", "x"], 2, USAGE),
+        (&["run", "OneC", "none.txt", "--budget", "01"], 2, USAGE),
+        (&["run", "OneC", "none.txt", "--slots", "1"], 2, USAGE),
     ];
     for (words, status, text) in &cases {
         let mut out = MemSink::new(alloc, 4000, Vec::new(alloc))?;
@@ -140,6 +167,18 @@ fn reads_any_blanks_and_numbers(rt: HostRuntime) -> Result<(), Fail> {
 3 out 0120 0
 end slots 10000 ran 5 sp 3900 off 1
 ";
+    assert!(rt; out.bytes().ends_with(end));
+    Ok(())
+}
+
+#[test]
+fn runs_for_no_slot(rt: HostRuntime) -> Result<(), Fail> {
+    let alloc = rt.alloc();
+    let mut out = MemSink::new(alloc, 4000, Vec::new(alloc))?;
+    let words = ["run", "OneC", "none.txt", "--budget", "0"];
+    let status = answer(alloc, &words, Vec::new(alloc), &mut out)?;
+    assert_eq!(rt; status, 0);
+    let end: &[u8] = b"q\ntrace\nend slots 0 ran 0 sp 3900 off 0\n";
     assert!(rt; out.bytes().ends_with(end));
     Ok(())
 }

@@ -1,22 +1,30 @@
 //! The top call: from the words of a command line to what is written.
 
-ghost use Rattle.std.specs.Prelude.{◌≡◌, ℕ, ◌<◌, ◌≤◌, ◌⊎◌, ◌++◌, ◌∷◌, List, [], Option, Some, None, map, codes, string_bytes, IfOk, IfErr, IsTrue, ◌↔◌, length};
+ghost use Rattle.std.specs.Prelude.{◌≡◌, ℕ, ◌≤◌, ◌⊎◌, List, Some, map, string_bytes, length, Err, IfOk, IfErr};
 ghost use Rattle.nm_base.specs.Outside.{Rose};
 ghost use Rattle.nesc_core.specs.View.{program_of};
+ghost use Rattle.nesc_preproc.specs.Sources.{max_file};
+ghost use Rattle.nesc_preproc.specs.Expands.{IfMissing as IfFaultMissing, Told};
 ghost use Rattle.nm_driver.specs.Compiled.{IsCompiled};
-ghost use Rattle.nm_driver.specs.Content.{IfWhole, IfStops, IsStop, HasRunText, HasRunCause};
-ghost use Rattle.nm_driver.specs.Output.{AreRunWords, HasCause, HasText, IfMissing, IsDone, IsUsageOrLess, Told, Wrote, application, line_of, source_file};
+ghost use Rattle.nm_driver.specs.Content.{FileStops, HasRunCause, HasRunText, IsFileFault};
+ghost use Rattle.nm_driver.specs.Output.{HasCause, HasText, IfMissing, IsDone, IsUsageOrLess, Wrote};
+ghost use Rattle.nm_driver.specs.Words.{AreRunWords};
 
-use crate::answer::{Answer, missing, read_fault, refused_later, schedule_line, usage};
+use crate::answer::{Answer, schedule_line, usage_line};
 use crate::compile::{Compiled, compile};
-use crate::form::{is_built_in, writes_of};
 use crate::output::run_output;
+use crate::source::{Source, answer_to, read_source};
 use crate::status::Status;
-use nm_base::{Files, Found, Name, NoMemory, Sink, write_all};
+use crate::words::request_of;
+use nesc_preproc::one_expansion;
+use nm_base::{Fault, Files, Found, Limit, Name, NoMemory, Sink, Which, write_all};
 use std::alloc::Global;
 
+/// How many bytes a file may have.
+const MAX_FILE: usize = 262_144;
+
 /// Compiles an application and runs its image. `words` are those behind the program's name: `run APP SCHEDULE`, of which
-/// the application stands in the file `APP.nc`.
+/// the application stands in the file `APP.nc`, and then `--budget N`, the number of slots, or nothing for 10,000.
 pub fn tool<F: Files, S: Sink>(
     alloc: Global,
     words: &[String],
@@ -38,11 +46,12 @@ pub fn tool<F: Files, S: Sink>(
     // What was written: the text of the answer, of which a fault leaves a beginning.
     ensures output { Wrote (F.texts files.old) (map string_bytes words.now) result (S.taken out.old) (S.taken out.new) }
 {
+    one_expansion();
     let answer = match prepare(alloc, words, files) {
         Ok(answer) => answer,
         Err(NoMemory) => return Status::NoMemory,
     };
-    match write_all(out, answer.text.as_bytes()) {
+    match write_all(out, answer.text.as_slice()) {
         Ok(()) => answer.status,
         Err(_) => Status::WriteFault,
     }
@@ -55,83 +64,76 @@ fn prepare<F: Files>(alloc: Global, words: &[String], files: &mut F) -> Result<A
     ensures usage { IfOk result (λ a. a.status ≡ Status.Usage → AreRunWords (map string_bytes words.now) → ⊥) }
     ensures not_usage { IfOk result (λ a. (AreRunWords (map string_bytes words.now) → ⊥) → IsUsageOrLess a.status) }
     ensures cause { IfOk result (λ a. (told : Told) → F.texts files.old ≡ Some told → HasCause told (map string_bytes words.now) a.status) }
-    ensures text { IfOk result (λ a. HasText (F.texts files.old) (map string_bytes words.now) a.status (string_bytes a.text)) }
+    ensures text { IfOk result (λ a. HasText (F.texts files.old) (map string_bytes words.now) a.status a.text.items) }
 {
-    if !are_run_words(words) {
-        return usage(alloc);
-    }
-    let app = words[1].as_str();
-    let name = format!(in alloc; "{app}.nc")?;
-    let file = name.as_str();
-    if is_built_in(app) {
-        return refused_later(alloc, file);
-    }
-    let source = match read_file(alloc, files, file)? {
-        Content::Whole(source) => source,
-        Content::Stops(answer) => return Ok(answer),
+    let Some(request) = request_of(words) else {
+        return Ok(Answer {
+            status: Status::Usage,
+            text: usage_line(alloc)?,
+        });
     };
-    let Some(writes) = writes_of(alloc, app, &source)? else {
-        return refused_later(alloc, file);
+    let writes = match read_source(alloc, files, request.app)? {
+        Source::Writes(writes) => writes,
+        Source::Stops(answer) => return Ok(answer),
     };
-    let compiled = compile(alloc, app, &writes)?;
-    run_on(alloc, words[2].as_str(), &compiled, files)
+    let compiled = compile(alloc, request.app, &writes)?;
+    run_on(alloc, files, request.schedule, request.budget, &compiled)
 }
 
 // The answer for a compiled application, by its schedule, which has to be empty.
 fn run_on<F: Files>(
     alloc: Global,
-    schedule: &str,
-    compiled: &Compiled,
     files: &mut F,
+    schedule: &str,
+    budget: u32,
+    compiled: &Compiled,
 ) -> Result<Answer, NoMemory>
-    requires { IsCompiled compiled.now }
+    requires compiled { IsCompiled compiled.now }
+    requires budget { budget ≤ 1000000 }
     ensures read_fault { IfOk result (λ a. a.status ≡ Status.ReadFault → Rose (F.faults files.old) (F.faults files.new)) }
     ensures missing { IfOk result (λ a. IfMissing a.status (λ name. Rose (F.misses files.old name) (F.misses files.new name))) }
     ensures kept { F.faults files.old ≤ F.faults files.new }
-    ensures text { IfOk result (λ a. HasRunText schedule.now (program_of compiled.now.program) a.status (string_bytes a.text)) }
+    ensures text { IfOk result (λ a. HasRunText schedule.now (program_of compiled.now.program) budget a.status a.text.items) }
     ensures cause { IfOk result (λ a. (told : Told) → F.texts files.old ≡ Some told → HasRunCause told schedule.now a.status) }
 {
-    let rows = match read_file(alloc, files, schedule)? {
-        Content::Whole(rows) => rows,
-        Content::Stops(answer) => return Ok(answer),
+    let name = Name::new(alloc, schedule.as_bytes())?;
+    let rows = match read_file(alloc, files, &name) {
+        Ok(rows) => rows,
+        Err(fault) => return answer_to(alloc, b"", fault),
     };
     if !rows.as_slice().is_empty() {
-        return schedule_line(alloc, 1);
+        return Ok(Answer {
+            status: Status::BadSchedule(1),
+            text: schedule_line(alloc, 1)?,
+        });
     }
+    let text = run_output(alloc, &compiled.image, budget)?;
     Ok(Answer {
         status: Status::Done,
-        text: run_output(alloc, &compiled.image)?,
+        text: text.as_bytes().to_vec(alloc)?,
     })
 }
 
-fn are_run_words(words: &[String]) -> bool
-    ensures { IsTrue result ↔ AreRunWords (map string_bytes words.now) }
-{
-    words.len() == 3 && words[0].as_str() == "run"
-}
-
-/// A file's content, or the answer that stops the call.
-#[derive(Drop)]
-enum Content {
-    Whole(Vec<u8>),
-    Stops(Answer),
-}
-
-fn read_file<F: Files>(alloc: Global, files: &mut F, name: &str) -> Result<Content, NoMemory>
+// A file's content.
+fn read_file<F: Files>(alloc: Global, files: &mut F, name: &Name) -> Result<Vec<u8>, Fault>
     ensures same { F.texts files.new ≡ F.texts files.old }
     ensures faults { F.faults files.old ≤ F.faults files.new }
     ensures misses { (n : List ℕ) → F.misses files.old n ≤ F.misses files.new n }
-    ensures whole { IfOk result (λ found. IfWhole found (λ bytes. (told : Told) → F.texts files.old ≡ Some told → told name.now ≡ Some bytes)) }
-    ensures stops { IfOk result (λ found. IfStops found (λ a. IsStop name.now a.status (string_bytes a.text))) }
-    ensures read_fault { IfOk result (λ found. IfStops found (λ a. a.status ≡ Status.ReadFault → Rose (F.faults files.old) (F.faults files.new))) }
-    ensures missing { IfOk result (λ found. IfStops found (λ a. IfMissing a.status (λ n. Rose (F.misses files.old n) (F.misses files.new n)))) }
-    ensures lacks { IfOk result (λ found. IfStops found (λ a. IfMissing a.status (λ n. (told : Told) → F.texts files.old ≡ Some told → told n ≡ None))) }
+    ensures read_fault { result ≡ Err Fault.ReadFault → Rose (F.faults files.old) (F.faults files.new) }
+    ensures missing { IfFaultMissing result (λ n. Rose (F.misses files.old n) (F.misses files.new n)) }
+    ensures kinds { IfErr result (λ e. IsFileFault name.now e) }
+    ensures small { IfOk result (λ v. length v.items ≤ max_file) }
+    ensures text { IfOk result (λ v. (told : Told) → F.texts files.old ≡ Some told → told name.now ≡ Some v.items) }
+    ensures stops { IfErr result (λ e. (told : Told) → F.texts files.old ≡ Some told → FileStops told name.now e) }
 {
-    let file = Name::new(alloc, name.as_bytes())?;
-    match files.read(alloc, &file) {
-        Found::Bytes(bytes) => Ok(Content::Whole(bytes)),
-        Found::Missing => Ok(Content::Stops(missing(alloc, name)?)),
-        Found::Failed => Ok(Content::Stops(read_fault(alloc)?)),
-        Found::NoMemory => Err(NoMemory),
+    match files.read(alloc, name) {
+        Found::Bytes(bytes) if bytes.len() > MAX_FILE => Err(Fault::Limit(Limit {
+            which: Which::File,
+            have: MAX_FILE as u32 + 1,
+        })),
+        Found::Bytes(bytes) => Ok(bytes),
+        Found::Missing => Err(Fault::Missing(name.clone()?)),
+        Found::Failed => Err(Fault::ReadFault),
+        Found::NoMemory => Err(Fault::NoMemory),
     }
 }

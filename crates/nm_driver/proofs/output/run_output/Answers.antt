@@ -7,7 +7,7 @@ use Rattle.nm_driver.proofs.output.run_output.Goals as goal
 pub returns : goal.returns
 returns c =
     let image = c.args.image.now in
-    let trace = trace_text (image_map image.code.items image.vectors) 10000 in
+    let trace = trace_text (image_map image.code.items image.vectors) c.args.budget in
     let lines = image_text image.code.items image.vectors in
     c.in_ok-push_trace.ensures
     ∙ ap (λ l. l ++ trace) c.in_ok-push_str.ensures.bytes
