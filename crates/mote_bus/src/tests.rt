@@ -7,6 +7,7 @@ use mote_devices::{Device, Leds, Timer};
 use mote_text::load_image;
 use msp_isa::Image;
 use msp430_cpu::{Bus, Cpu, Stepped};
+use std::alloc::Global;
 use std::test::Fail;
 
 // Lamps that keep their state in a byte.
@@ -127,22 +128,27 @@ fn takes_a_device_of_the_callers(rt: HostRuntime) -> Result<(), Fail> {
     Ok(())
 }
 
-#[test]
-fn keeps_the_first_four_accesses(rt: HostRuntime) -> Result<(), Fail> {
-    // MOV #13, &0x0120; MOV &0x0120, R5; MOV.B R5, &0x1101
-    let code = [0x40B2, 13, 0x0120, 0x4215, 0x0120, 0x45C2, 0x1101];
+// A bus with this code, and lamps in the first slot.
+fn bus_of(alloc: Global, code: &[u16]) -> Result<MoteBus, Fail> {
     let mut vectors = [0; 16];
     vectors[15] = 0x4000;
     let image = Image {
-        code: code.to_vec(rt.alloc())?,
+        code: code.to_vec(alloc)?,
         vectors,
         ram: 2,
         stack: 0,
     };
-    let mut devices: Vec<Box<dyn Device>> = Vec::new(rt.alloc());
-    devices.push(Box::new(rt.alloc(), Leds::new())?)?;
-    let loaded = load_image(rt.alloc(), &image)?;
-    let mut bus = MoteBus::new(rt.alloc(), &loaded, Board::new(devices))?;
+    let mut devices: Vec<Box<dyn Device>> = Vec::new(alloc);
+    devices.push(Box::new(alloc, Leds::new())?)?;
+    let loaded = load_image(alloc, &image)?;
+    Ok(MoteBus::new(alloc, &loaded, Board::new(devices))?)
+}
+
+#[test]
+fn keeps_the_first_four_accesses(rt: HostRuntime) -> Result<(), Fail> {
+    // MOV #13, &0x0120; MOV &0x0120, R5; MOV.B R5, &0x1101
+    let code = [0x40B2, 13, 0x0120, 0x4215, 0x0120, 0x45C2, 0x1101];
+    let mut bus = bus_of(rt.alloc(), &code)?;
     let mut cpu = Cpu::new(bus.fetch(0xFFFE));
     for _ in 0..3 {
         assert_eq!(rt; cpu.step(&mut bus), Stepped::Ran);
@@ -153,26 +159,27 @@ fn keeps_the_first_four_accesses(rt: HostRuntime) -> Result<(), Fail> {
         Access::Write(0x1101, false, 5),
     ];
     assert_eq!(rt; bus.accesses(), three.as_slice());
-    assert_eq!(rt;
-        bus.read(0x1101, true),
-        0x0500,
-        "bit 0 of a word's address is ignored"
-    );
-    assert_eq!(rt;
-        bus.read(0x0120, false),
-        0,
-        "a byte is not read from a port"
-    );
+    let word = bus.read(0x1101, true);
+    assert_eq!(rt; word, 0x0500, "bit 0 of a word's address is ignored");
+    assert_eq!(rt; bus.read(0x0120, true), 5);
     assert_eq!(rt;
         bus.accesses().get(3).copied(),
         Some(Access::Read(0x1101, true, 0x0500))
     );
     assert_eq!(rt; bus.accesses().len(), 4);
+    Ok(())
+}
+
+#[test]
+fn takes_no_byte_at_a_port_and_no_code(rt: HostRuntime) -> Result<(), Fail> {
+    let mut bus = bus_of(rt.alloc(), &[0x40B2])?;
+    bus.board_mut().write(0x0120, 5);
+    assert_eq!(rt; bus.read(0x0120, false), 0);
     bus.forget();
     bus.write(0x0120, false, 2);
     bus.write(0x4000, true, 2);
-    assert_eq!(rt; bus.board_mut().read(0x0120), 5, "nor written to one");
-    assert_eq!(rt; bus.fetch(0x4000), 0x40B2, "code stays");
+    assert_eq!(rt; bus.board_mut().read(0x0120), 5);
+    assert_eq!(rt; bus.fetch(0x4000), 0x40B2);
     let two = [
         Access::Write(0x0120, false, 2),
         Access::Write(0x4000, true, 2),

@@ -97,9 +97,6 @@ pub lines-append : (number : ℕ) (a b : List Shown) → lines_of number (a ++ b
 lines-append number a b =
     ap trace_lines (map-append (λ e. (number, e)) a b) ∙ flat_map-append event_line (in_slot number a) (in_slot number b)
 
-pub one_line : (number : ℕ) (e : Shown) → lines_of number (e ∷ []) ≡ event_line (number, e)
-one_line number e = append-nil (event_line (number, e))
-
 -- the lines of a list, one item after the other
 module _ {X : Type 0} (events : List X → List Shown) (joins : (a b : List X) → events (a ++ b) ≡ events a ++ events b) (number : ℕ) (xs : List X) (i : ℕ) (d : X) (within : i < length xs) where
   longer : take (i + 1) xs ≡ take i xs ++ get_or xs i d ∷ []

@@ -1,12 +1,14 @@
 -- Where a text is cut.
-use Rattle.std.proofs.Common.{◌≡◌, ℕ, ◌+◌, ◌-◌, ◌<◌, ◌≤◌, ◌==◌, Bool, true, false, not, cond, nat_lt, Some, None, List, [], ◌∷◌, length, take, drop, length-drop, arith, refl, sym, ap, ◌∙◌}
-use Rattle.std.specs.List.{slice_split, position_or_len, count_by}
+use Rattle.std.proofs.Common.{◌≡◌, ℕ, ◌+◌, ◌-◌, ◌<◌, ◌≤◌, ◌==◌, Bool, true, false, not, ◌&&◌, cond, nat_lt, Some, None, List, [], ◌∷◌, length, take, drop, length-drop, ◌++◌, arith, refl, sym, ap, ◌∙◌}
+use Rattle.std.specs.List.{All, list_all, slice_split, position_or_len, count_by}
 use Rattle.std.specs.Str.Lines.{lines, lines_of_parts, strip_carriage_return}
 use Rattle.std.specs.Option.{unwrap_or}
 use Rattle.mote_text.specs.Lines.{words}
+use Rattle.std.proofs.lemmas.Bool.{and_parts}
 use Rattle.std.proofs.lemmas.Bool.Decides.{nat_tests}
 use Rattle.std.proofs.lemmas.List.{take_all}
-use Rattle.std.proofs.lemmas.List.Splits.{slice_split_first, slice_split_none, length-slice_split}
+use Rattle.std.proofs.lemmas.List.Elements.{All-cons, All-get_or}
+use Rattle.std.proofs.lemmas.List.Splits.{slice_split_at, slice_split_first, slice_split_none, length-slice_split}
 use Rattle.std.proofs.lemmas.List.Sums.{fails_before_first, prefix_len-le-length}
 
 module _ (p : ℕ → Bool) (text : List ℕ) (end : ℕ) (is : end ≡ position_or_len p text) where
@@ -36,6 +38,30 @@ cut_line text line rest h = ap lines_of_parts h ∙ by_parts (slice_split (λ b.
     by_parts : (parts : List (List ℕ)) → length parts ≡ count_by (λ b. b == 10) rest + 1 → lines_of_parts (line ∷ parts) ≡ strip_carriage_return line ∷ lines_of_parts parts
     by_parts [] e = absurd (omega arith)
     by_parts (x ∷ xs) e = refl
+
+-- neither LF nor CR
+abbrev pub IsPlain : ℕ → Type 0
+IsPlain b = ((b == 10) ≡ false) × ((b == 13) ≡ false)
+
+-- what passes this test, before more of the kind
+pub plain_then : (xs : List ℕ) → list_all (λ b. not (b == 10) && not (b == 13)) xs ≡ true → (ys : List ℕ) → All IsPlain ys → All IsPlain (xs ++ ys)
+plain_then [] h ys hy = hy
+plain_then (x ∷ xs) h ys hy =
+    let p = and_parts (not (x == 10) && not (x == 13)) (list_all (λ b. not (b == 10) && not (b == 13)) xs) h in
+    let q = and_parts (not (x == 10)) (not (x == 13)) p.0 in
+    All-cons IsPlain x (xs ++ ys) (off (x == 10) q.0, off (x == 13) q.1) (plain_then xs p.1 ys hy)
+  where
+    off : (t : Bool) → not t ≡ true → t ≡ false
+    off true h = sym h
+    off false h = refl
+
+-- a line of such characters
+module _ (front rest : List ℕ) (some : 0 < length front) (plain : All IsPlain front) where
+  kept : strip_carriage_return front ≡ front
+  kept = ap (λ t. cond t (take (length front - 1) front) front) (All-get_or IsPlain front (length front - 1) 0 (omega arith) plain).1
+
+  pub first_line : lines (front ++ 10 ∷ rest) ≡ front ∷ lines rest
+  first_line = cut_line (front ++ 10 ∷ rest) front rest (slice_split_at (λ b. b == 10) front 10 rest (λ k d h. (plain k d h).0) refl) ∙ ap (λ l. l ∷ lines rest) kept
 
 -- a text has a word at least
 pub some_words : {A : Type 0} (f : List (List ℕ) → A) (x : A) (text : List ℕ) → ((w : List ℕ) (ws : List (List ℕ)) → f (w ∷ ws) ≡ x) → f (words text) ≡ x

@@ -3,4 +3,7 @@ pub mod Cutting
 pub mod ImageBytes
 pub mod EventWords
 pub mod ScheduleBack
+pub mod ImageCells
+pub mod ImageWords
+pub mod ImageBack
 pub mod Writing

@@ -1,30 +1,24 @@
 -- A printed schedule reads back to its rows.
-use Rattle.std.proofs.Common.{◌≡◌, ℕ, ◌-◌, ◌<◌, ◌≤◌, ◌==◌, Bool, true, false, not, cond, ◌&&◌, List, [], ◌∷◌, ◌++◌, length, take, Option, Some, None, arith, refl, sym, ap, ◌∙◌, append_assoc, length-append}
+use Rattle.std.proofs.Common.{◌≡◌, ℕ, ◌<◌, ◌≤◌, ◌==◌, Bool, true, false, cond, ◌&&◌, List, [], ◌∷◌, ◌++◌, length, Option, Some, None, arith, refl, sym, ap, ◌∙◌, append_assoc, length-append}
 use Rattle.std.specs.Prelude.{codes, decimal, nat_le, Result, Ok, Err}
-use Rattle.std.specs.List.{All, list_all}
+use Rattle.std.specs.List.{All}
 use Rattle.std.specs.Option.{option_map, option_and_then}
 use Rattle.std.specs.Char.{digit_value}
-use Rattle.std.specs.Str.Lines.{lines, strip_carriage_return}
+use Rattle.std.specs.Str.Lines.{lines}
 use Rattle.std.specs.Str.Parse.{AllDigits}
-use Rattle.std.proofs.lemmas.Bool.{and_parts}
 use Rattle.std.proofs.lemmas.Bool.Decides.{nat_tests}
 use Rattle.std.proofs.lemmas.Fmt.{decimal_is_IsNumeral, decimal_nonempty, length-decimal-le}
 use Rattle.std.proofs.lemmas.List.{append-nil}
-use Rattle.std.proofs.lemmas.List.Elements.{All-nil, All-cons, All-append, All-get_or}
-use Rattle.std.proofs.lemmas.List.Splits.{slice_split_at}
+use Rattle.std.proofs.lemmas.List.Elements.{All-nil, All-cons, All-append}
 use Rattle.mote_devices.specs.declared.shown.Due.{Due}
 use Rattle.mote_devices.specs.declared.shown.Given.{Given}
 use Rattle.mote_devices.specs.declared.shown.Given.TheVariants.{Arrive, Unplug}
 use Rattle.mote_text.specs.Lines.{next_line, numeral, read_lines, words}
 use Rattle.mote_text.specs.ScheduleText.{IsArrival, Rows, RowsFrom, ScheduleReadsBack, due_of_words, is_comment, next_due, no_rows, row_text, schedule_of, schedule_step, schedule_text, with_row}
-use Rattle.mote_text.proofs.Cutting.{cut_line}
+use Rattle.mote_text.proofs.Cutting.{IsPlain, first_line, plain_then}
 use Rattle.mote_text.proofs.EventWords.{decimal_numeral, decimal_word, four_words, letters}
 
 -- ---- lines
-
--- neither LF nor CR
-abbrev IsPlain : ℕ → Type 0
-IsPlain b = ((b == 10) ≡ false) × ((b == 13) ≡ false)
 
 plain_digit : (b : ℕ) → digit_value b < 10 → IsPlain b
 plain_digit b h = (by_test 10 (b == 10) refl refl, by_test 13 (b == 13) refl refl)
@@ -39,13 +33,6 @@ plain_digit b h = (by_test 10 (b == 10) refl refl, by_test 13 (b == 13) refl ref
 plain_digits : (ds : List ℕ) → AllDigits 10 ds → All IsPlain ds
 plain_digits [] h = All-nil IsPlain
 plain_digits (d ∷ ds) h = All-cons IsPlain d ds (plain_digit d h.0) (plain_digits ds h.1)
-
-module _ (front rest : List ℕ) (some : 0 < length front) (plain : All IsPlain front) where
-  kept : strip_carriage_return front ≡ front
-  kept = ap (λ t. cond t (take (length front - 1) front) front) (All-get_or IsPlain front (length front - 1) 0 (omega arith) plain).1
-
-  first_line : lines (front ++ 10 ∷ rest) ≡ front ∷ lines rest
-  first_line = cut_line (front ++ 10 ∷ rest) front rest (slice_split_at (λ b. b == 10) front 10 rest (λ k d h. (plain k d h).0) refl) ∙ ap (λ l. l ∷ lines rest) kept
 
 no_comment : (ds xs : List ℕ) → 0 < length ds → AllDigits 10 ds → is_comment (ds ++ xs) ≡ false
 no_comment [] xs some h = absurd (omega arith)
@@ -67,22 +54,11 @@ module _ (s k v : ℕ) (hs : s < 0x100000000) (hk : k < 8) (hv : v < 0x10000) wh
   plain : All IsPlain front
   plain =
       All-append IsPlain (decimal s) (codes " arrive " ++ (decimal k ++ (codes " " ++ decimal v))) (number s hs)
-      (word (32 ∷ 97 ∷ 114 ∷ 114 ∷ 105 ∷ 118 ∷ 101 ∷ 32 ∷ []) refl (decimal k ++ (codes " " ++ decimal v))
-      (All-append IsPlain (decimal k) (codes " " ++ decimal v) (number k (omega arith)) (word (32 ∷ []) refl (decimal v) (number v (omega arith)))))
+      (plain_then (32 ∷ 97 ∷ 114 ∷ 114 ∷ 105 ∷ 118 ∷ 101 ∷ 32 ∷ []) refl (decimal k ++ (codes " " ++ decimal v))
+      (All-append IsPlain (decimal k) (codes " " ++ decimal v) (number k (omega arith)) (plain_then (32 ∷ []) refl (decimal v) (number v (omega arith)))))
     where
       number : (n : ℕ) → n < 0x100000000 → All IsPlain (decimal n)
       number n h = plain_digits (decimal n) (decimal_is_IsNumeral n (omega arith)).0.1
-
-      word : (xs : List ℕ) → list_all (λ b. not (b == 10) && not (b == 13)) xs ≡ true → (ys : List ℕ) → All IsPlain ys → All IsPlain (xs ++ ys)
-      word [] h ys hy = hy
-      word (x ∷ xs) h ys hy =
-          let p = and_parts (not (x == 10) && not (x == 13)) (list_all (λ b. not (b == 10) && not (b == 13)) xs) h in
-          let q = and_parts (not (x == 10)) (not (x == 13)) p.0 in
-          All-cons IsPlain x (xs ++ ys) (off (x == 10) q.0, off (x == 13) q.1) (word xs p.1 ys hy)
-        where
-          off : (t : Bool) → not t ≡ true → t ≡ false
-          off true h = sym h
-          off false h = refl
 
   read : due_of_words (words front) ≡ Some (record { slot = s; given = Arrive k v })
   read =

@@ -1,7 +1,9 @@
 -- What a TI-TXT text says (TI-TXT, as the MSP430 tools write it; own: the memory from 0x4000 on, sixteen bytes a line at most).
-use Rattle.std.specs.Prelude.{ℕ, ◌+◌, ◌==◌, Bool, true, false, ◌&&◌, nat_lt, nat_le, if◌then◌else◌, List, [], ◌∷◌, length, Option, Some, None, Result, is_none}
+use Rattle.std.specs.Prelude.{◌≡◌, ℕ, ◌+◌, ◌==◌, Bool, true, false, ◌&&◌, nat_lt, nat_le, if◌then◌else◌, List, [], ◌∷◌, length, Option, Some, None, Result, Ok, is_none}
 use Rattle.std.specs.Option.{option_map, option_and_then, unwrap_or}
 use Rattle.std.specs.Str.Lines.{lines}
+use Rattle.msp_isa.specs.Image.{IsImage, image_map}
+use Rattle.mote_text.specs.ImageText.{image_text}
 use Rattle.mote_text.specs.Lines.{numeral, read_lines}
 
 pub data ImageLine : Type 0 where
@@ -78,3 +80,7 @@ memory_of r = if r.ended then Some (λ a. unwrap_or (r.byte_at a) 0) else None
 -- the bytes that the text names, or the number of the first line that is refused
 unfoldable pub image_of : List ℕ → Result (ℕ → ℕ) ℕ
 image_of text = read_lines image_step memory_of 1 nothing_read (lines text)
+
+-- a printed image reads back to its map
+abbrev pub ImageReadsBack : Type 0
+ImageReadsBack = (code vectors : List ℕ) → IsImage code vectors → image_of (image_text code vectors) ≡ Ok (image_map code vectors)

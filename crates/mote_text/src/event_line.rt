@@ -1,6 +1,6 @@
 //! Events as text, and from it.
 
-ghost use Rattle.std.specs.Prelude.{◌≡◌, ◌≤◌, ◌+◌, ◌∷◌, [], ◌++◌, Some, None, decimal, take, drop, length, IfSome};
+ghost use Rattle.std.specs.Prelude.{◌≡◌, ◌≤◌, ◌+◌, ◌++◌, Some, take, drop, length, IfSome};
 ghost use Rattle.mote_text.specs.Hex.{hex_word};
 ghost use Rattle.mote_text.specs.Lines.{words};
 ghost use Rattle.mote_text.specs.TraceText.{and_number, event_text, shown_text};
@@ -8,31 +8,9 @@ ghost use Rattle.mote_text.specs.TraceWords.{event_of, shown_of, shown_of_one, s
 ghost use Rattle.mote_text.specs.declared.trace.Event.{Event as EventOf};
 
 use crate::Event;
-use crate::hex::hex_digits;
+use crate::line::{Line, copy, push, push_number, push_word};
 use crate::lines::{cut, numeral};
-use arrayvec::ArrayVec;
-use itoa::Buffer;
 use mote_devices::{Given, Shown};
-
-/// Room for an event's line, which has 27 bytes at most.
-type Line = ArrayVec<u8, 64>;
-
-fn push(line: &mut Line, piece: &[u8])
-    requires { length line.old.items + length piece.now ≤ 64 }
-    ensures { line.new.items ≡ line.old.items ++ piece.now }
-{
-    // There is room.
-    let _ = line.try_extend_from_slice(piece);
-}
-
-fn push_number(line: &mut Line, number: u32)
-    requires { length line.old.items + 10 ≤ 64 }
-    ensures text { line.new.items ≡ line.old.items ++ decimal number }
-    ensures short { length line.new.items ≤ length line.old.items + 10 }
-{
-    let mut digits = Buffer::new();
-    push(line, digits.format(number).as_bytes());
-}
 
 // A space and a number.
 fn push_and_number(line: &mut Line, number: u32)
@@ -51,7 +29,7 @@ fn push_access(line: &mut Line, word: &[u8], port: u16, value: u16)
     ensures { line.new.items ≡ line.old.items ++ (word.now ++ hex_word port ++ and_number value) }
 {
     push(line, word);
-    push(line, &hex_digits(port));
+    push_word(line, port);
     push_and_number(line, u32::from(value));
 }
 
@@ -98,10 +76,7 @@ pub fn print_event(event: &Event, buffer: &mut [u8; 64]) -> usize
     ensures line { take result buffer.new ≡ event_text event.now.slot event.now.shown }
     ensures rest { drop result buffer.new ≡ drop result buffer.old }
 {
-    let line = line_of(event);
-    let bytes = line.as_slice();
-    buffer[..bytes.len()].copy_from_slice(bytes);
-    bytes.len()
+    copy(&line_of(event), buffer)
 }
 
 fn shown_of_one(verb: &[u8], operand: &[u8]) -> Option<Shown>

@@ -1,14 +1,8 @@
 //! Hexadecimal numbers of a fixed width.
 
-ghost use Rattle.std.specs.Prelude.{◌≡◌, ◌<◌, Some};
+ghost use Rattle.std.specs.Prelude.{◌≡◌, ◌<◌};
 ghost use Rattle.std.specs.Char.{digit_char};
 ghost use Rattle.mote_text.specs.Hex.{hex_word, hex_upper};
-
-use std::{fmt, str};
-
-/// A word as four lower-case hexadecimal digits.
-#[derive(Clone, Copy)]
-pub struct HexWord(pub u16);
 
 fn lower_digit(digit: u16) -> u8
     requires { digit < 16 }
@@ -31,15 +25,6 @@ pub(crate) fn hex_digits(word: u16) -> [u8; 4]
         lower_digit(word / 0x10 % 16),
         lower_digit(word % 16),
     ]
-}
-
-impl fmt::Display for HexWord {
-    ghost output = { λ word. Some (hex_word word.0) };
-
-    fn fmt<W: fmt::Write>(&self, f: &mut fmt::Formatter<W>) -> fmt::Result {
-        let digits = hex_digits(self.0);
-        f.write_str(str::from_utf8(&digits).map_err(|_| fmt::Error)?)
-    }
 }
 
 /// The upper-case hexadecimal digit of a number below 16.

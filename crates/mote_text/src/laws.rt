@@ -1,7 +1,14 @@
-//! What holds of every text.
+//! Printed texts read back.
 
+ghost use Rattle.mote_text.specs.ImageLines.{ImageReadsBack};
 ghost use Rattle.mote_text.specs.ScheduleText.{ScheduleReadsBack};
 ghost use Rattle.mote_text.specs.TraceWords.{LineTellsEvent};
+
+/// A printed image reads back to its map.
+#[tactic(auto, using(crate::proofs::ImageBack::reads_back))]
+pub fn image_reads_back()
+    ensures { ImageReadsBack }
+{}
 
 /// A printed schedule reads back to its rows.
 #[tactic(auto, using(crate::proofs::ScheduleBack::reads_back))]

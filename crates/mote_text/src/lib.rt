@@ -1,12 +1,14 @@
-//! The texts of images and traces.
+//! The texts of images, schedules and traces.
 #![tactic(auto)]
 
 mod cells;
+mod end_line;
 mod event_line;
 mod hex;
 mod image_line;
 mod image_text;
 mod laws;
+mod line;
 mod lines;
 mod loaded;
 mod reader;
@@ -15,9 +17,10 @@ mod schedule;
 mod text_fault;
 mod trace;
 
+pub use end_line::print_end;
 pub use event_line::{print_event, read_event};
 pub use image_text::{print_image, push_image};
-pub use laws::{line_tells_event, schedule_reads_back};
+pub use laws::{image_reads_back, line_tells_event, schedule_reads_back};
 pub use loaded::{Loaded, load_image};
 pub use reader::read_image;
 pub use rows::worked_rows;

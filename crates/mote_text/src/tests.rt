@@ -1,6 +1,6 @@
 //! What a reader sees: the text of an image, and the lines of a trace.
 
-use crate::{End, Event, push_image};
+use crate::{End, Event, print_end, print_event, push_image};
 use mote_devices::{Given, Shown};
 use msp_isa::Image;
 use std::test::Fail;
@@ -27,8 +27,7 @@ const TRACE_TEXT: &str = "0 arrive 3 65535
 41 out 0120 0
 999 enter 12
 4294967295 fault 2
-end slots 10000 ran 812 sp 38fa off 1
-";
+end slots 10000 ran 812 sp 38fa off 1";
 
 #[test]
 fn prints_an_image(rt: HostRuntime) -> Result<(), Fail> {
@@ -56,10 +55,12 @@ fn prints_a_trace(rt: HostRuntime) -> Result<(), Fail> {
         (999, Shown::Enter(12)),
         (u32::MAX, Shown::Fault(2)),
     ];
-    let mut text = String::new(rt.alloc());
+    let mut text = Vec::new(rt.alloc());
+    let mut line = [0; 64];
     for (slot, shown) in events {
-        let event = Event { slot, shown };
-        text.push_str(&format!(in rt.alloc(); "{event}\n")?)?;
+        let length = print_event(&Event { slot, shown }, &mut line);
+        text.extend_from_slice(&line[..length])?;
+        text.push(b'\n')?;
     }
     let end = End {
         slots: 10000,
@@ -67,7 +68,8 @@ fn prints_a_trace(rt: HostRuntime) -> Result<(), Fail> {
         least: 0x38FA,
         off: true,
     };
-    text.push_str(&format!(in rt.alloc(); "{end}\n")?)?;
-    assert_eq!(rt; text.as_str(), TRACE_TEXT);
+    let length = print_end(&end, &mut line);
+    text.extend_from_slice(&line[..length])?;
+    assert_eq!(rt; text.as_slice(), TRACE_TEXT.as_bytes());
     Ok(())
 }

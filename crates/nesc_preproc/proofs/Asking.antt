@@ -9,7 +9,7 @@ use Rattle.nesc_macros.specs.declared.definition.Macro.{Macro}
 use Rattle.nesc_macros.specs.Expansion.{Answer, Settles, ExpandsTo, FailsTo, expanded_tokens}
 use Rattle.nesc_conditions.specs.Resolved.{resolved}
 use Rattle.nesc_conditions.specs.Conditions.{condition, ConditionIs}
-use Rattle.nesc_preproc.specs.Obeyed.{Outcome, Situation, after, asked, elif_at, elif_by, asked_of, goes_on, stops, truth_of, valued, with_conditionals, with_tokens}
+use Rattle.nesc_preproc.specs.Obeyed.{Outcome, Situation, after, asked, elif_at, elif_by, asked_of, stops, truth_of, valued, with_conditionals, with_tokens}
 use Rattle.nesc_preproc.specs.declared.context.Context.{Context}
 use Rattle.nesc_preproc.specs.declared.conditional.Conditional.{Conditional}
 use Rattle.nesc_preproc.specs.Conditionals.{at_group}
@@ -64,11 +64,6 @@ obeys_fault go s now f g fault.ReadFault same p is-now = fault_settles go s (sit
 obeys_fault go s now f g (fault.Limit l) same p is-now = fault_settles go s (situation_of now) f g (fault.Limit l) now.known.tokens same p is-now
 obeys_fault go s now f g (fault.TooLarge r n) same p is-now = fault_settles go s (situation_of now) f g (fault.TooLarge r n) now.known.tokens same p is-now
 obeys_fault go s now f g fault.NoMemory same p is-now = tt
-
--- the condition holds or not, and the directive goes on
-pub goes_settles : (go : Bool → Situation → Situation) (s now : Situation) (f : ℕ → Option (Answer Bool)) (v : Bool) (count : ℕ)
-    → Settles f (record { value = Ok v; count = count }) → now ≡ go v (with_tokens s count) → Settles (λ steps. after go s (f steps)) (goes_on now)
-goes_settles go s now f v count p is-now = rw is-now (map_settles f (after go s) (record { value = Ok v; count = count }) (goes_on (go v (with_tokens s count))) refl p)
 
 pub elif_is : (at : Pos) (line : List Token) (s : Situation) (cs : List Conditional) (c : Conditional)
     → cs ≡ c ∷ drop 1 cs → c.last ≡ false → c.taken ≡ false → (n : ℕ)

@@ -1,6 +1,5 @@
 -- What obeying a directive settles to.
-use Rattle.std.specs.Prelude.{◌≡◌, ℕ, true, false, List, ◌∷◌, Option, Some, None, Result, Ok, Err, Vec}
-use Rattle.std.specs.declared.alloc.Global.{Global}
+use Rattle.std.specs.Prelude.{◌≡◌, ℕ, true, List, ◌∷◌, Option, Some, Result, Ok, Err}
 use Rattle.std.proofs.Common.{ap, ◌∙◌}
 use Rattle.nm_base.specs.declared.pos.Pos.{Pos}
 use Rattle.nm_base.specs.declared.token.Token.{Token}
@@ -8,9 +7,8 @@ use Rattle.nm_base.specs.declared.fault.Fault.{Fault}
 use Rattle.nm_base.specs.declared.fault.Fault.TheVariants as fault
 use Rattle.nesc_preproc.specs.declared.context.Context.{Context}
 use Rattle.nesc_preproc.specs.Sources.{World}
-use Rattle.nesc_preproc.specs.Conditionals.{is_live}
-use Rattle.nesc_preproc.specs.Obeyed.{Outcome, Situation, directive_of, is_conditional, grouped, named_by, obeyed, plain, plain_where}
-use Rattle.nesc_preproc.specs.Answers.{Obeys, ObeysIn, Gives, GivesIn}
+use Rattle.nesc_preproc.specs.Obeyed.{Outcome, Situation, directive_of, is_conditional, grouped, named_by, obeyed}
+use Rattle.nesc_preproc.specs.Answers.{Obeys, ObeysIn, GivesIn}
 use Rattle.nesc_preproc.proofs.Settling.{at_once, same_settles}
 
 pub obeys_at_once : (r : Result (Unit {0}) Fault) (now : Context) (o : Outcome) → Obeys r now o → ObeysIn r now (λ _. Some o)
@@ -21,15 +19,6 @@ obeys_at_once (Err fault.ReadFault) now o h = rw h (at_once _)
 obeys_at_once (Err (fault.Limit l)) now o h = rw h (at_once _)
 obeys_at_once (Err (fault.TooLarge r n)) now o h = rw h (at_once _)
 obeys_at_once (Err fault.NoMemory) now o h = tt
-
-gives_at_once : (r : Result (Option (Vec Token Global)) Fault) (now : Context) (o : Outcome) (f : ℕ → Option Outcome) → ((n : ℕ) → f n ≡ Some o) → Gives r now o → GivesIn r now f
-gives_at_once (Ok u) now o f e h = same_settles _ f _ e (rw h (at_once _))
-gives_at_once (Err (fault.Refused r)) now o f e h = same_settles _ f _ e (rw h (at_once _))
-gives_at_once (Err (fault.Missing n)) now o f e h = same_settles _ f _ e (rw h (at_once _))
-gives_at_once (Err fault.ReadFault) now o f e h = same_settles _ f _ e (rw h (at_once _))
-gives_at_once (Err (fault.Limit l)) now o f e h = same_settles _ f _ e (rw h (at_once _))
-gives_at_once (Err (fault.TooLarge r n)) now o f e h = same_settles _ f _ e (rw h (at_once _))
-gives_at_once (Err fault.NoMemory) now o f e h = tt
 
 gives_fault : (e : Fault) (now : Context) (f g : ℕ → Option Outcome) → ((n : ℕ) → g n ≡ f n) → ObeysIn (Err e) now f → GivesIn (Err e) now g
 gives_fault (fault.Refused r) now f g e h = same_settles f g _ e h
@@ -50,15 +39,3 @@ pub grouped_refuses : (world : World) (depth : ℕ) (at : Pos) (whole line : Lis
     → whole ≡ name ∷ line → is_conditional (directive_of name) ≡ true → ObeysIn (Err e) now (λ n. grouped n at line s (directive_of name))
     → GivesIn (Err e) now (λ n. obeyed n world depth at whole s)
 grouped_refuses world depth at whole line name s now e is-line c h = gives_fault e now _ _ (is_grouped world depth at whole line name s is-line c) h
-
-pub grouped_goes : (world : World) (depth : ℕ) (at : Pos) (whole line : List Token) (name : Token) (s : Situation) (now : Context) (u : Unit {0})
-    → whole ≡ name ∷ line → is_conditional (directive_of name) ≡ true → ObeysIn (Ok u) now (λ n. grouped n at line s (directive_of name))
-    → GivesIn (Ok None) now (λ n. obeyed n world depth at whole s)
-grouped_goes world depth at whole line name s now u is-line c h = same_settles _ _ _ (is_grouped world depth at whole line name s is-line c) h
-
--- another directive
-pub plain_gives : (world : World) (depth : ℕ) (at : Pos) (whole line : List Token) (name : Token) (s : Situation) (now : Context) (r : Result (Option (Vec Token Global)) Fault)
-    → whole ≡ name ∷ line → is_conditional (directive_of name) ≡ false → is_live s.conditionals ≡ true → Gives r now (plain world depth at line s (directive_of name))
-    → GivesIn r now (λ n. obeyed n world depth at whole s)
-plain_gives world depth at whole line name s now r is-line c live h =
-    gives_at_once r now _ _ (λ n. ap (λ ts. obeyed n world depth at ts s) is-line ∙ ap (λ b. named_by b n world depth at line s (directive_of name)) c ∙ ap (λ b. Some (plain_where b world depth at line s (directive_of name))) live) h

@@ -1,5 +1,5 @@
 -- What a directive does (C99 6.10; own: headers that are included again, and which error comes where).
-use Rattle.std.specs.Prelude.{ℕ, Bool, true, false, not, ◌&&◌, List, [], ◌∷◌, ◌++◌, nat_le, codes, Option, Some, None, Result, Ok, Err, ℤ}
+use Rattle.std.specs.Prelude.{ℕ, Bool, true, false, not, ◌&&◌, List, [], ◌∷◌, ◌++◌, nat_le, codes, Option, Some, None, Result, Ok, Err, ℤ, if◌then◌else◌}
 use Rattle.nm_base.specs.declared.token.Token.{Token}
 use Rattle.nm_base.specs.declared.pos.Pos.{Pos}
 use Rattle.nm_base.specs.declared.refusal.Refusal.TheVariants as refusal
@@ -24,50 +24,21 @@ use Rattle.nesc_preproc.specs.Conditionals.{is_live, begun, skipped, at_group, e
 abbrev pub is_called : Token → List ℕ → Bool
 is_called t text = is_word t && same_name t.text text
 
+-- each name with its directive
+abbrev pub directives : List (Name × Directive)
+directives =
+    (codes "define", directive.Define) ∷ (codes "undef", directive.Undef) ∷ (codes "include", directive.Include)
+    ∷ (codes "if", directive.If) ∷ (codes "ifdef", directive.Ifdef) ∷ (codes "ifndef", directive.Ifndef)
+    ∷ (codes "elif", directive.Elif) ∷ (codes "else", directive.Else) ∷ (codes "endif", directive.Endif)
+    ∷ (codes "error", directive.Error) ∷ (codes "warning", directive.Warning) ∷ []
+
+abbrev pub directive_in : Token → List (Name × Directive) → Directive
+directive_in t [] = directive.Unknown
+directive_in t (d ∷ ds) = if is_called t d.0 then d.1 else directive_in t ds
+
 -- the directive of this name
 unfoldable pub directive_of : Token → Directive
-directive_of t =
-    elim (is_called t (codes "define")) [
-      | true ↦ directive.Define
-      | false ↦
-          elim (is_called t (codes "undef")) [
-            | true ↦ directive.Undef
-            | false ↦
-                elim (is_called t (codes "include")) [
-                  | true ↦ directive.Include
-                  | false ↦
-                      elim (is_called t (codes "if")) [
-                        | true ↦ directive.If
-                        | false ↦
-                            elim (is_called t (codes "ifdef")) [
-                              | true ↦ directive.Ifdef
-                              | false ↦
-                                  elim (is_called t (codes "ifndef")) [
-                                    | true ↦ directive.Ifndef
-                                    | false ↦
-                                        elim (is_called t (codes "elif")) [
-                                          | true ↦ directive.Elif
-                                          | false ↦
-                                              elim (is_called t (codes "else")) [
-                                                | true ↦ directive.Else
-                                                | false ↦
-                                                    elim (is_called t (codes "endif")) [
-                                                      | true ↦ directive.Endif
-                                                      | false ↦
-                                                          elim (is_called t (codes "error")) [
-                                                            | true ↦ directive.Error
-                                                            | false ↦
-                                                                elim (is_called t (codes "warning")) [ true ↦ directive.Warning | false ↦ directive.Unknown ]
-                                                          ]
-                                                    ]
-                                              ]
-                                        ]
-                                  ]
-                            ]
-                      ]
-                ]
-          ]
-    ]
+directive_of t = directive_in t directives
 
 -- ---- what a directive leaves
 

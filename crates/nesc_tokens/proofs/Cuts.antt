@@ -2,13 +2,13 @@
 use Rattle.std.proofs.Common.{◌≡◌, ℕ, zero, suc, ◌+◌, ◌<◌, ◌≤◌, Bool, true, false, not, ◌&&◌, List, [], ◌∷◌, ◌++◌, length, get_or, take, drop, refl, sym, ap, subst, ◌∙◌, arith, length-take-le, take-append-drop, length-drop, one-add, append_assoc}
 use Rattle.std.specs.Prelude.{nat_eq, codes}
 use Rattle.std.specs.List.{prefix_len}
-use Rattle.std.proofs.lemmas.List.{take_all, drop-map, take-map, length-map, drop-drop, drop_all, append-nil}
+use Rattle.std.proofs.lemmas.List.{take_all, drop-map, take-map, length-map, drop-drop, append-nil}
 use Rattle.nm_base.specs.declared.refusal.Refusal.{Refusal}
 use Rattle.nm_base.specs.declared.token.Token.{Token}
 use Rattle.nesc_tokens.specs.declared.splice.SourceByte.{SourceByte}
 use Rattle.nesc_tokens.specs.declared.pieces.Sort.{Sort}
 use Rattle.nesc_tokens.specs.Splices.{source_of}
-use Rattle.nesc_tokens.specs.Lexes.{bytes_of, Stands, Piece, Divides, tokens_of, place_of, tokens_of_piece, first_behind, Lexes, IsRefused, Why, begins}
+use Rattle.nesc_tokens.specs.Lexes.{bytes_of, Stands, Piece, Divides, tokens_of, place_of, tokens_of_piece, first_behind, IsRefused, Why, begins}
 use Rattle.nesc_tokens.specs.CodePoints.{ends_line}
 use Rattle.nesc_tokens.specs.Begins.{Begins}
 use Rattle.nm_base.specs.declared.pos.Pos.{Pos}
@@ -76,9 +76,6 @@ reached_next file text source bytes at first tokens sort n are le within stands 
     let text-is : bytes_of (take n (drop at source)) ≡ take n (drop at bytes) = sym (take-map (λ (s : SourceByte). s.byte) n (drop at source)) ∙ sym (ap (take n) rest-are) in
     let rest-is : drop n (drop at source) ≡ drop (at + n) source = drop-drop n at source in
     (omega (arith, length-drop at source), subst (λ (t : List ℕ). Reached file text (drop (at + n) source) (first_behind sort t first) (tokens ++ tokens_of_piece sort t (place_of file (take n (drop at source))) first)) text-is (subst (λ (r : List SourceByte). Reached file text r (first_behind sort (bytes_of (take n (drop at source))) first) (tokens ++ tokens_of_piece sort (bytes_of (take n (drop at source))) (place_of file (take n (drop at source))) first)) rest-is more))
-
-pub reached_end : (file : ℕ) (text : List ℕ) (source : List SourceByte) (at : ℕ) (first : Bool) (tokens : List Token) → length source ≤ at → Reached file text (drop at source) first tokens → Lexes file text tokens
-reached_end file text source at first tokens le before = record { pieces = before.pieces; divided = subst (λ (r : List SourceByte). Divides before.pieces (source_of text) r) (drop_all at source le) before.divided; are_theirs = before.theirs }
 
 pub reached_refusal : (file : ℕ) (text : List ℕ) (source : List SourceByte) (at : ℕ) (first : Bool) (tokens : List Token) (refusal : Refusal) → Why file (drop at source) refusal → Reached file text (drop at source) first tokens → IsRefused file text refusal
 reached_refusal file text source at first tokens refusal why before = record { pieces = before.pieces; rest = drop at source; divided = before.divided; why = why }

@@ -9,9 +9,6 @@ use Rattle.nesc_tokens.specs.Spelling.{is_number, is_octal, is_hexadecimal, is_d
 use Rattle.nesc_tokens.specs.Longest.{IsDigits, IsLongestOf, begins_hexadecimal, kind_at}
 use Rattle.nesc_tokens.proofs.LexemeKinds.{digit_of}
 
-empty_number : is_number [] ≡ false
-empty_number = refl
-
 no_hexadecimal : (b : ℕ) (bs : List ℕ) → (b == 48) ≡ false → is_hexadecimal (b ∷ bs) ≡ false
 no_hexadecimal b [] other = refl
 no_hexadecimal b (x ∷ []) other = refl

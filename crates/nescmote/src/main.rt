@@ -1,11 +1,12 @@
-//! The program: the top call over the files of the current folder and standard output.
+//! The program: the top call over the files of the current folder, standard output, and a board of five devices.
 #![tactic(auto)]
 
-ghost use Rattle.std.specs.Prelude.{[], map, string_bytes, MatchResult};
+ghost use Rattle.std.specs.Prelude.{◌≡◌, map, string_bytes, IfOk, OnErr};
 ghost use Rattle.std.specs.Process.{exit_status};
-ghost use Rattle.nescmote.specs.Answered.{IsAnswer, IsAnswered};
+ghost use Rattle.nescmote.specs.Answered.{IsAnswer, IsAnswered, seen, words_or_none};
 
-use nm_base::{Files, FolderFiles, Sink, StdSink};
+use mote_devices::{Device, Leds, Radio, Sensor, Serial, Timer};
+use nm_base::{Files, FolderFiles, NoMemory, Sink, StdSink};
 use nm_driver::{Status, tool};
 use std::alloc::Global;
 use std::io::ErrorKind;
@@ -17,6 +18,26 @@ fn words(rt: &HostRuntime) -> io::Result<Vec<String>> {
     Ok(env::args(rt)?.skip(1).collect(rt.alloc())?)
 }
 
+// The answer to words, on a board with five devices in the order of their slots.
+fn answer_to<F: Files, S: Sink>(
+    alloc: Global,
+    words: &[String],
+    files: &mut F,
+    out: &mut S,
+) -> Result<Status, NoMemory>
+    ensures ok { IfOk result (IsAnswer (seen (F.texts files.old) (F.faults files.old) (F.misses files.old) (S.faults out.old) (S.taken out.old))
+        (seen (F.texts files.new) (F.faults files.new) (F.misses files.new) (S.faults out.new) (S.taken out.new)) (map string_bytes words.now)) }
+    ensures err { OnErr result (S.taken out.new ≡ S.taken out.old) }
+{
+    let leds: Box<dyn Device> = Box::new(alloc, Leds::new())?;
+    let timer: Box<dyn Device> = Box::new(alloc, Timer::new())?;
+    let serial: Box<dyn Device> = Box::new(alloc, Serial::new())?;
+    let radio: Box<dyn Device> = Box::new(alloc, Radio::new())?;
+    let sensor: Box<dyn Device> = Box::new(alloc, Sensor::new())?;
+    let board = vec![in alloc; leds, timer, serial, radio, sensor]?;
+    Ok(tool(alloc, words, files, out, board))
+}
+
 // The answer to the words, where words that are no text are none.
 fn answer<F: Files, S: Sink>(
     alloc: Global,
@@ -24,13 +45,14 @@ fn answer<F: Files, S: Sink>(
     files: &mut F,
     out: &mut S,
 ) -> Status
-    ensures { MatchResult words (λ ws. IsAnswer (F.texts files.old) (map string_bytes ws.items) (S.taken out.old) (S.taken out.new) result)
-        (λ e. IsAnswer (F.texts files.old) [] (S.taken out.old) (S.taken out.new) result) }
+    ensures { IsAnswer (seen (F.texts files.old) (F.faults files.old) (F.misses files.old) (S.faults out.old) (S.taken out.old))
+        (seen (F.texts files.new) (F.faults files.new) (F.misses files.new) (S.faults out.new) (S.taken out.new))
+        (words_or_none (λ ws. map string_bytes ws.items) words) result }
 {
     match words {
-        Ok(words) => tool(alloc, &words, files, out),
+        Ok(words) => answer_to(alloc, &words, files, out).unwrap_or(Status::NoMemory),
         Err(error) if error.kind() == ErrorKind::OutOfMemory => Status::NoMemory,
-        Err(_) => tool(alloc, &[], files, out),
+        Err(_) => answer_to(alloc, &[], files, out).unwrap_or(Status::NoMemory),
     }
 }
 
@@ -41,8 +63,9 @@ fn run<F: Files, S: Sink>(
     files: &mut F,
     out: &mut S,
 ) -> ExitCode
-    ensures { MatchResult words (λ ws. IsAnswered (F.texts files.old) (map string_bytes ws.items) (S.taken out.old) (S.taken out.new) (exit_status result))
-        (λ e. IsAnswered (F.texts files.old) [] (S.taken out.old) (S.taken out.new) (exit_status result)) }
+    ensures { IsAnswered (seen (F.texts files.old) (F.faults files.old) (F.misses files.old) (S.faults out.old) (S.taken out.old))
+        (seen (F.texts files.new) (F.faults files.new) (F.misses files.new) (S.faults out.new) (S.taken out.new))
+        (words_or_none (λ ws. map string_bytes ws.items) words) (exit_status result) }
 {
     let status = answer(alloc, words, files, out);
     ExitCode::from(status.code())

@@ -1,70 +1,52 @@
--- The causes of answers, and the texts that go with them.
-use Rattle.std.proofs.Common.{◌≡◌, ◌<◌, ◌⊎◌, inl, inr, ⊎_elim, ℕ, suc, ◌==◌, true, false, List, [], ◌∷◌, length, Option, Some, None, IfOk, arith, refl, sym, ap, subst, ◌∙◌}
+-- Answers that are due, and what good words and files leave of them.
+use Rattle.std.proofs.Common.{◌≡◌, ◌<◌, ◌≤◌, ◌⊎◌, inl, inr, ⊎_elim, ℕ, List, [], length, Option, Some, None, arith, refl, sym, ap, subst, ◌∙◌}
 use Rattle.std.specs.declared.result.Result.{Result}
 use Rattle.std.specs.declared.result.Result.TheVariants.{Ok, Err}
-use Rattle.std.proofs.lemmas.Bool.Decides.{nat_tests}
-use Rattle.nm_base.specs.Outside.{appended}
+use Rattle.std.specs.Result.{IsErrAnd}
+use Rattle.std.specs.Prelude.{IfErr}
 use Rattle.nm_base.specs.declared.fault.Fault.{Fault}
 use Rattle.nm_base.specs.declared.fault.Fault.TheVariants as fault
-use Rattle.nm_base.specs.declared.token.Token.{Token}
+use Rattle.nm_base.specs.declared.limit.Limit.{Limit as LimitOf}
 use Rattle.nesc_preproc.specs.Sources.{Known, nothing_known}
-use Rattle.nesc_core.specs.Plain.{Program}
 use Rattle.nesc_preproc.specs.Expands.{IfMissing as IfFaultMissing, Told}
 use Rattle.nesc_preproc.specs.OneExpansion.{OneExpansion, IsAnswer}
+use Rattle.mote_devices.specs.declared.state.BoardState.{BoardState}
+use Rattle.mote_devices.specs.declared.shown.Due.{Due}
+use Rattle.mote_text.specs.ImageLines.{image_of}
+use Rattle.mote_text.specs.ScheduleText.{schedule_of}
+use Rattle.nm_driver.specs.declared.answer.Answer.{Answer}
+use Rattle.nm_driver.specs.declared.answer.Stop.{Stop}
+use Rattle.nm_driver.specs.declared.answer.Stop.TheVariants as stop
 use Rattle.nm_driver.specs.declared.form.Constant.{Constant}
-use Rattle.nm_driver.specs.Content.{FileStops, IsFileFault, IsNoMemory, IsStop, HasRunText, HasRunCause, fault_file, status_of}
-use Rattle.nm_driver.specs.Form.{HasForm}
-use Rattle.nm_driver.specs.Lines.{fault_line}
-use Rattle.nm_driver.specs.Output.{HasCause, HasText, IfMissing, IsBadSchedule, ComesTo, IsDone, IsLargeSchedule, IsRunText, IsSource, IsStopped, LacksSchedule, ReadsTo, StopsAt, Wrote, application, file_of, source_file, wired}
-use Rattle.nm_driver.specs.Tokens.{spellings}
-use Rattle.nm_driver.specs.Words.{AreWords}
-use Rattle.nm_driver.proofs.Requests.{one_request}
+use Rattle.nm_driver.specs.declared.words.Mode.{Mode}
+use Rattle.nm_driver.specs.declared.words.Mode.TheVariants.{Run, Mote}
 use Rattle.nm_driver.specs.declared.status.Status.{Status}
 use Rattle.nm_driver.specs.declared.status.Status.TheVariants.{Done, Refused, Usage, Missing, ReadFault, WriteFault, BadSchedule, Limit, TooLarge, NoMemory, BadImage}
+use Rattle.nm_driver.specs.Form.{HasForm}
+use Rattle.nm_driver.specs.Lines.{answer_line}
+use Rattle.nm_driver.specs.NamedFiles.{FileStops, HasImage, HasRows, HasSubject, ImageStops, IsRead, IsSource, IsStopped, IsTooLarge, ScheduleStops, SubjectStops, source_file, status_of}
+use Rattle.nm_driver.specs.Output.{HasCause, HasText, IfMissing, IsDone, IsDue, Prints, Stops}
+use Rattle.nm_driver.specs.Prepared.{IfSays, IsLined, IsNoMemory, SaysOf, SaysOfSubject, fault_file}
+use Rattle.nm_driver.specs.Tokens.{spellings}
+use Rattle.nm_driver.specs.Words.{Asked, AreWords}
+use Rattle.nm_driver.proofs.Requests.{one_request}
 
-pub empty : {A : Type 0} (l : List A) → (length l == 0) ≡ true → l ≡ []
-empty [] h = refl
-empty (x ∷ l) h = absurd (let e : suc (length l) ≡ 0 = grind (arith, nat_tests) in omega arith)
+-- ---- facts of an answer, where there is one
 
-pub some : {A : Type 0} (l : List A) → (length l == 0) ≡ false → 0 < length l
-some l h = grind (arith, nat_tests)
+pub if_says : {P Q : Answer → Type 0} (s : Stop) → ((a : Answer) → P a → Q a) → IfSays s P → IfSays s Q
+if_says (stop.Says a) f h = f a h
+if_says stop.NoMemory f h = tt
 
--- the second word is the application
-application_is : (words : List (List ℕ)) (app schedule : List ℕ) (budget : ℕ) → AreWords words app schedule budget → application words ≡ app
-application_is words app schedule budget (inl h) = ap application h.0
-application_is words app schedule budget (inr h) = ap application h.1
+pub if_says_three : {P Q R S : Answer → Type 0} (s : Stop) → ((a : Answer) → P a → Q a → R a → S a) → IfSays s P → IfSays s Q → IfSays s R → IfSays s S
+if_says_three (stop.Says a) f h k l = f a h k l
+if_says_three stop.NoMemory f h k l = tt
 
-stops_at : (words : List (List ℕ)) (app schedule : List ℕ) (budget : ℕ) (are : AreWords words app schedule budget) (told : Told) (e : Fault) (known : Known) → IsStopped told app e known → StopsAt told words e
-stops_at words app schedule budget are told e known h = record { app = app; schedule = schedule; budget = budget; words_are = are; known = known; stopped = h }
+-- an error that is passed on
+pub passed : {A : Type 0} (P : Stop → Type 0) (r : Result A Stop) (e : Stop) → IsErrAnd r (λ x. x ≡ e) → P e → IfErr r P
+passed P (Err x) e is h = subst P (sym is) h
+passed P (Ok x) e is h = absurd is
 
-fault_cause : (words : List (List ℕ)) (app schedule : List ℕ) (budget : ℕ) (are : AreWords words app schedule budget) (told : Told) (e : Fault) (known : Known) → (IsNoMemory e → ⊥) → IsStopped told app e known → HasCause told words (status_of e)
-fault_cause words app schedule budget are told (fault.Refused r) known found h = stops_at words app schedule budget are told (fault.Refused r) known h
-fault_cause words app schedule budget are told (fault.Missing n) known found h = inl (stops_at words app schedule budget are told (fault.Missing n) known h)
-fault_cause words app schedule budget are told fault.ReadFault known found h = tt
-fault_cause words app schedule budget are told (fault.Limit l) known found h = inl (stops_at words app schedule budget are told (fault.Limit l) known h)
-fault_cause words app schedule budget are told (fault.TooLarge room n) known found h = stops_at words app schedule budget are told (fault.TooLarge room n) known h
-fault_cause words app schedule budget are told fault.NoMemory known found h = absurd (found tt)
-
--- an answer about the application's files
-pub stops_cause : (words : List (List ℕ)) (app schedule : List ℕ) (budget : ℕ) (are : AreWords words app schedule budget) (o : Option Told) (told : Told) → o ≡ Some told → (status : Status) (text : List ℕ) → IsStop o app status text → HasCause told words status
-stops_cause words app schedule budget are o told h status text stop = rw stop.is_status (fault_cause words app schedule budget are told stop.cause stop.known stop.found (stop.source told h))
-
-fault_text : (words : List (List ℕ)) (app : List ℕ) (o : Option Told) (text : List ℕ) (e : Fault) (known : Known) → application words ≡ app → (IsNoMemory e → ⊥) → text ≡ fault_line (fault_file known (source_file app) e) e → ((files : Told) → o ≡ Some files → IsStopped files app e known) → HasText o words (status_of e) text
-fault_text words app o text (fault.Refused r) known named found line source = record {
-  known = known;
-  line = subst (λ a. text ≡ fault_line (file_of known (source_file a) r) (fault.Refused r)) (sym named) line;
-  source = λ files e. subst (λ a. IsStopped files a (fault.Refused r) known) (sym named) (source files e);
-}
-fault_text words app o text (fault.Missing n) known named found line source = line
-fault_text words app o text fault.ReadFault known named found line source = line
-fault_text words app o text (fault.Limit l) known named found line source = line
-fault_text words app o text (fault.TooLarge room n) known named found line source = line
-fault_text words app o text fault.NoMemory known named found line source = absurd (found tt)
-
-pub stops_text : (words : List (List ℕ)) (app schedule : List ℕ) (budget : ℕ) (are : AreWords words app schedule budget) (o : Option Told) (status : Status) (text : List ℕ) → IsStop o app status text → HasText o words status text
-stops_text words app schedule budget are o status text stop = rw stop.is_status (fault_text words app o text stop.cause stop.known (application_is words app schedule budget are) stop.found stop.is_text stop.source)
-
--- ---- an answer about the schedule's file
+-- ---- the answer to a fault
 
 pub read_fault_of : (e : Fault) → status_of e ≡ ReadFault → e ≡ fault.ReadFault
 read_fault_of (fault.Refused r) h = absurd (let k : Refused r ≡ ReadFault = h in cc)
@@ -82,56 +64,64 @@ missing_of A P (fault.Limit l) h = tt
 missing_of A P (fault.TooLarge room n) h = tt
 missing_of A P fault.NoMemory h = tt
 
-pub file_text : (schedule : List ℕ) (program : Program) (budget : ℕ) (e : Fault) (text : List ℕ) → (IsNoMemory e → ⊥) → IsFileFault schedule e → text ≡ fault_line [] e → HasRunText schedule program budget (status_of e) text
-file_text schedule program budget (fault.Refused r) text found h line = absurd h
-file_text schedule program budget (fault.Missing n) text found h line = (h, line)
-file_text schedule program budget fault.ReadFault text found h line = line
-file_text schedule program budget (fault.Limit l) text found h line = line
-file_text schedule program budget (fault.TooLarge room n) text found h line = absurd h
-file_text schedule program budget fault.NoMemory text found h line = absurd (found tt)
+-- ---- answers that are due
 
-pub file_cause : (told : Told) (schedule : List ℕ) (e : Fault) → (IsNoMemory e → ⊥) → IsFileFault schedule e → FileStops told schedule e → HasRunCause told schedule (status_of e)
-file_cause told schedule (fault.Refused r) found h stops = absurd h
-file_cause told schedule (fault.Missing n) found h stops = ap told h ∙ stops
-file_cause told schedule fault.ReadFault found h stops = tt
-file_cause told schedule (fault.Limit l) found h stops = (stops.0, stops.1, stops.2, h)
-file_cause told schedule (fault.TooLarge room n) found h stops = absurd h
-file_cause told schedule fault.NoMemory found h stops = absurd (found tt)
+module _ (told : Option Told) (words : List (List ℕ)) (asked : Asked) (are : AreWords words asked) (board : BoardState) where
+  lined_due : (status : Status) (text : List ℕ) → IsLined status → text ≡ answer_line [] status → ((files : Told) → told ≡ Some files → Stops files words status) → IsDue told words board status text
+  lined_due Done text lined line stops = absurd lined
+  lined_due (Refused r) text lined line stops = absurd lined
+  lined_due Usage text lined line stops = absurd lined
+  lined_due (Missing name) text lined line stops = record { is_text = line; cause = stops; usage = λ e. absurd (let k : Missing name ≡ Usage = e in cc); not_usage = λ none. absurd (none (asked, are)) }
+  lined_due ReadFault text lined line stops = record { is_text = line; cause = λ files h. tt; usage = λ e. absurd (let k : ReadFault ≡ Usage = e in cc); not_usage = λ none. absurd (none (asked, are)) }
+  lined_due WriteFault text lined line stops = absurd lined
+  lined_due (BadSchedule n) text lined line stops = record { is_text = line; cause = stops; usage = λ e. absurd (let k : BadSchedule n ≡ Usage = e in cc); not_usage = λ none. absurd (none (asked, are)) }
+  lined_due (Limit l) text lined line stops = record { is_text = line; cause = stops; usage = λ e. absurd (let k : Limit l ≡ Usage = e in cc); not_usage = λ none. absurd (none (asked, are)) }
+  lined_due (TooLarge room n) text lined line stops = absurd lined
+  lined_due NoMemory text lined line stops = absurd lined
+  lined_due (BadImage n) text lined line stops = record { is_text = line; cause = stops; usage = λ e. absurd (let k : BadImage n ≡ Usage = e in cc); not_usage = λ none. absurd (none (asked, are)) }
 
--- ---- an answer about the schedule, or the end
+  fault_due : (e : Fault) (known : Known) (text : List ℕ) → asked.mode ≡ Run → (IsNoMemory e → ⊥) → text ≡ answer_line (fault_file known (source_file asked.subject) e) (status_of e)
+      → ((files : Told) → told ≡ Some files → IsStopped files asked.subject e known) → ((files : Told) → told ≡ Some files → Stops files words (status_of e)) → IsDue told words board (status_of e) text
+  fault_due (fault.Refused r) known text runs found line source stops = record {
+    is_text = record { asked = asked; words_are = are; runs = runs; known = known; line = line; source = source };
+    cause = stops;
+    usage = λ e. absurd (let k : Refused r ≡ Usage = e in cc);
+    not_usage = λ none. absurd (none (asked, are));
+  }
+  fault_due (fault.Missing name) known text runs found line source stops = lined_due (Missing name) text tt line stops
+  fault_due fault.ReadFault known text runs found line source stops = lined_due ReadFault text tt line stops
+  fault_due (fault.Limit l) known text runs found line source stops = lined_due (Limit l) text tt line stops
+  fault_due (fault.TooLarge room n) known text runs found line source stops = record {
+    is_text = line;
+    cause = stops;
+    usage = λ e. absurd (let k : TooLarge room n ≡ Usage = e in cc);
+    not_usage = λ none. absurd (none (asked, are));
+  }
+  fault_due fault.NoMemory known text runs found line source stops = absurd (found tt)
 
-pub runs : (words : List (List ℕ)) (app schedule : List ℕ) (budget : ℕ) (are : AreWords words app schedule budget) (told : Told) (writes : List Constant) → IsSource told app writes → (status : Status) (text : List ℕ) → HasRunText schedule (wired app writes) budget status text → HasRunCause told schedule status → HasCause told words status
-runs words app schedule budget are told writes source Done text h cause = record { app = app; schedule = schedule; budget = budget; words_are = are; writes = writes; source = source; empty = cause }
-runs words app schedule budget are told writes source (Refused r) text h cause = absurd h
-runs words app schedule budget are told writes source Usage text h cause = absurd h
-runs words app schedule budget are told writes source (Missing name) text h cause = inr (record { before = subst (ComesTo told words) (sym h.0) (record { app = app; budget = budget; words_are = are; writes = writes; source = source }); lacks = cause })
-runs words app schedule budget are told writes source ReadFault text h cause = tt
-runs words app schedule budget are told writes source WriteFault text h cause = absurd h
-runs words app schedule budget are told writes source (BadSchedule n) text h cause = record { schedule = schedule; before = record { app = app; budget = budget; words_are = are; writes = writes; source = source }; text = cause.0; read = cause.1; some = cause.2; small = cause.3; first = cause.4 }
-runs words app schedule budget are told writes source (Limit l) text h cause = inr (record { schedule = schedule; before = record { app = app; budget = budget; words_are = are; writes = writes; source = source }; text = cause.0; read = cause.1; large = cause.2; this = cause.3 })
-runs words app schedule budget are told writes source (TooLarge room n) text h cause = absurd h
-runs words app schedule budget are told writes source NoMemory text h cause = absurd h
-runs words app schedule budget are told writes source (BadImage n) text h cause = absurd h
+  stops_at : (files : Told) (status : Status) → SubjectStops files asked.mode asked.subject status → Stops files words status
+  stops_at files status h = record { asked = asked; words_are = are; cause = inl h }
 
-pub texts : (words : List (List ℕ)) (app schedule : List ℕ) (budget : ℕ) (are : AreWords words app schedule budget) (told : Option Told) (writes : List Constant) → ((files : Told) → told ≡ Some files → IsSource files app writes) → (status : Status) (text : List ℕ) → HasRunText schedule (wired app writes) budget status text → HasText told words status text
-texts words app schedule budget are told writes source Done text h = record {
-  schedule = schedule;
-  budget = budget;
-  words_are = subst (λ a. AreWords words a schedule budget) (sym (application_is words app schedule budget are)) are;
-  writes = writes;
-  run = subst (λ a. IsRunText (wired a writes) budget text) (sym (application_is words app schedule budget are)) h;
-  source = λ files e. subst (λ a. IsSource files a writes) (sym (application_is words app schedule budget are)) (source files e);
-}
-texts words app schedule budget are told writes source (Refused r) text h = absurd h
-texts words app schedule budget are told writes source Usage text h = absurd h
-texts words app schedule budget are told writes source (Missing name) text h = h.1
-texts words app schedule budget are told writes source ReadFault text h = h
-texts words app schedule budget are told writes source WriteFault text h = absurd h
-texts words app schedule budget are told writes source (BadSchedule n) text h = h
-texts words app schedule budget are told writes source (Limit l) text h = h
-texts words app schedule budget are told writes source (TooLarge room n) text h = absurd h
-texts words app schedule budget are told writes source NoMemory text h = absurd h
-texts words app schedule budget are told writes source (BadImage n) text h = absurd h
+  -- an answer about what is run
+  pub subject_due : (mode : Mode) → asked.mode ≡ mode → (answer : Answer) → SaysOfSubject told mode asked.subject answer → IsDue told words board answer.status answer.text.items
+  subject_due Run runs answer says =
+      subst (λ s. IsDue told words board s answer.text.items) (sym says.is_status)
+      (fault_due says.cause says.known answer.text.items runs says.found says.is_text says.source
+      (λ files h. stops_at files (status_of says.cause) (subst (λ m. SubjectStops files m asked.subject (status_of says.cause)) (sym runs) (record { fault = says.cause; known = says.known; stopped = says.source files h; answer = refl }))))
+  subject_due Mote runs answer says =
+      lined_due answer.status answer.text.items says.lined says.text
+      (λ files h. stops_at files answer.status (subst (λ m. SubjectStops files m asked.subject answer.status) (sym runs) (says.cause files h)))
+
+  -- an answer about the schedule of a good subject
+  pub schedule_due : ((files : Told) → told ≡ Some files → HasSubject files asked.mode asked.subject) → (answer : Answer) → SaysOf told (λ files. ScheduleStops files asked.schedule) answer → IsDue told words board answer.status answer.text.items
+  schedule_due good answer says =
+      lined_due answer.status answer.text.items says.lined says.text
+      (λ files h. record { asked = asked; words_are = are; cause = inr (good files h, says.cause files h) })
+
+-- what prints has its subject
+pub has_subject : (told : Option Told) (files : Told) → told ≡ Some files → (mode : Mode) (name : List ℕ) (board : BoardState) (rows : List Due) (n : ℕ) (text : List ℕ) → Prints told mode name board rows n text → HasSubject files mode name
+has_subject told files h Run name board rows n text prints = (prints.0, prints.2 files h)
+has_subject told files h Mote name board rows n text prints = (prints.0, prints.2 files h)
 
 -- ---- where all is good
 
@@ -141,85 +131,114 @@ none_some x o e f = let h = sym e ∙ f in cc
 same_some : {A : Type 0} (x y : A) (o : Option A) → o ≡ Some x → o ≡ Some y → x ≡ y
 same_some x y o e f = let h = sym e ∙ f in cc
 
-err_ok : (e : Fault) (x : List Token) → Err e ≡ Ok x → ⊥
+err_ok : {A E : Type 0} (e : E) (x : A) → (let r : Result A E = Err e in r ≡ Ok x) → ⊥
 err_ok e x h = cc
 
-ok_of : (x y : List Token) → (let r : Result (List Token) Fault = Ok x in r ≡ Ok y) → x ≡ y
+ok_of : {A E : Type 0} (x y : A) → (let r : Result A E = Ok x in r ≡ Ok y) → x ≡ y
 ok_of x y h = cc
 
+module _ (told : Told) (name text : List ℕ) (read : IsRead told name text) where
+  not_large : (l : LimitOf) → IsTooLarge told name l → ⊥
+  not_large l h =
+      let same = ap length (same_some h.text text (told name) h.there read.there) in
+      let small : length text ≤ 262144 = read.small in
+      let large : 262144 < length h.text = h.large in
+      omega arith
+
+  same_text : (other : List ℕ) → IsRead told name other → text ≡ other
+  same_text other h = same_some text other (told name) read.there h.there
+
+-- a file that is read does not stop the call
+not_file : (told : Told) (name text : List ℕ) (s : Status) → IsRead told name text → FileStops told name s → s ≡ ReadFault
+not_file told name text Done read h = absurd h
+not_file told name text (Refused r) read h = absurd h
+not_file told name text Usage read h = absurd h
+not_file told name text (Missing n) read h = absurd (none_some text (told name) h.1 read.there)
+not_file told name text ReadFault read h = refl
+not_file told name text WriteFault read h = absurd h
+not_file told name text (BadSchedule n) read h = absurd h
+not_file told name text (Limit l) read h = absurd (not_large told name text read l h)
+not_file told name text (TooLarge room n) read h = absurd h
+not_file told name text NoMemory read h = absurd h
+not_file told name text (BadImage n) read h = absurd h
+
+not_image : (told : Told) (name : List ℕ) (image : ℕ → ℕ) (s : Status) → HasImage told name image → ImageStops told name s → s ≡ ReadFault
+not_image told name image Done has h = absurd h
+not_image told name image (Refused r) has h = absurd h
+not_image told name image Usage has h = absurd h
+not_image told name image (Missing n) has h = not_file told name has.text (Missing n) has.read h
+not_image told name image ReadFault has h = refl
+not_image told name image WriteFault has h = absurd h
+not_image told name image (BadSchedule n) has h = absurd h
+not_image told name image (Limit l) has h = not_file told name has.text (Limit l) has.read h
+not_image told name image (TooLarge room n) has h = absurd h
+not_image told name image NoMemory has h = absurd h
+not_image told name image (BadImage n) has h =
+    absurd (err_ok n image (sym h.first ∙ ap image_of (sym (same_text told name has.text has.read h.text h.read)) ∙ has.image_is))
+
+not_schedule : (told : Told) (name : List ℕ) (rows : List Due) (s : Status) → HasRows told name rows → ScheduleStops told name s → s ≡ ReadFault
+not_schedule told name rows Done has h = absurd h
+not_schedule told name rows (Refused r) has h = absurd h
+not_schedule told name rows Usage has h = absurd h
+not_schedule told name rows (Missing n) has h = not_file told name has.text (Missing n) has.read h
+not_schedule told name rows ReadFault has h = refl
+not_schedule told name rows WriteFault has h = absurd h
+not_schedule told name rows (BadSchedule n) has h =
+    absurd (err_ok n rows (sym h.first ∙ ap schedule_of (sym (same_text told name has.text has.read h.text h.read)) ∙ has.rows_are))
+not_schedule told name rows (Limit l) has (inl h) = not_file told name has.text (Limit l) has.read h
+not_schedule told name rows (Limit l) has (inr h) =
+    let same = ok_of h.rows rows (sym h.rows_are ∙ ap schedule_of (sym (same_text told name has.text has.read h.text h.read)) ∙ has.rows_are) in
+    let few : length rows ≤ 100000 = has.few in
+    let many : 100000 < length h.rows = h.many in
+    let e = ap length same in
+    absurd (omega arith)
+not_schedule told name rows (TooLarge room n) has h = absurd h
+not_schedule told name rows NoMemory has h = absurd h
+not_schedule told name rows (BadImage n) has h = absurd h
+
+module _ (one : OneExpansion) (told : Told) (app : List ℕ) (writes : List Constant) (source : IsSource told app writes) where
+  not_stopped : (e : Fault) (known : Known) → IsAnswer (Err e) → IsStopped told app e known → ⊥
+  not_stopped e known answers (inl reads) =
+      err_ok e source.tokens ((one told (Some nothing_known) (source_file app) (Err e) (Ok source.tokens) (Some known) (Some source.known) reads source.read answers tt).0)
+  not_stopped e known answers (inr h) =
+      let formless = h.1 in
+      let same = (one told (Some nothing_known) (source_file app) (Ok source.tokens) (Ok formless.tokens) (Some source.known) (Some known) source.read formless.read tt tt).0 in
+      formless.none writes (subst (λ ts. HasForm app (spellings ts) writes) (ok_of source.tokens formless.tokens same) source.form)
+
+  not_source : (e : Fault) (known : Known) → IsStopped told app e known → (status_of e ≡ ReadFault) ⊎ (status_of e ≡ NoMemory)
+  not_source (fault.Refused r) known h = absurd (not_stopped (fault.Refused r) known tt h)
+  not_source (fault.Missing n) known h = absurd (not_stopped (fault.Missing n) known tt h)
+  not_source fault.ReadFault known h = inl refl
+  not_source (fault.Limit l) known h = absurd (not_stopped (fault.Limit l) known tt h)
+  not_source (fault.TooLarge room n) known h = absurd (not_stopped (fault.TooLarge room n) known tt h)
+  not_source fault.NoMemory known h = inr refl
+
 module _ (one : OneExpansion) (told : Told) (words : List (List ℕ)) (good : IsDone told words) where
-  not_stopped : (e : Fault) → IsAnswer (Err e) → StopsAt told words e → ⊥
-  not_stopped e answers m =
-      let w = one_request words m.app m.schedule m.budget good.app good.schedule good.budget m.words_are good.words_are in
+  not_subject : (mode : Mode) (name : List ℕ) (s : Status) → HasSubject told mode name → SubjectStops told mode name s → (s ≡ ReadFault) ⊎ (s ≡ NoMemory)
+  not_subject Run name s has h = subst (λ x. (x ≡ ReadFault) ⊎ (x ≡ NoMemory)) (sym h.answer) (not_source one told name has.0 has.1 h.fault h.known h.stopped)
+  not_subject Mote name s has h = inl (not_image told name has.0 s has.1 h)
+
+  only_faults : (s : Status) → Stops told words s → (s ≡ ReadFault) ⊎ (s ≡ NoMemory)
+  only_faults s m =
+      let same = one_request words m.asked good.asked m.words_are good.words_are in
       ⊎_elim
-      (λ reads. err_ok e good.source.tokens ((one told (Some nothing_known) (source_file good.app) (Err e) (Ok good.source.tokens) (Some m.known) (Some good.source.known) (subst (λ a. ReadsTo told a (Err e) m.known) w.0 reads) good.source.read answers tt).0))
-      (λ f.
-      let formless = f.1 in
-      let same = (one told (Some nothing_known) (source_file good.app) (Ok good.source.tokens) (Ok formless.tokens) (Some good.source.known) (Some m.known) good.source.read (subst (λ a. ReadsTo told a (Ok formless.tokens) m.known) w.0 formless.read) tt tt).0 in
-      formless.none good.writes (subst (λ a. HasForm a (spellings formless.tokens) good.writes) (sym w.0) (subst (λ ts. HasForm good.app (spellings ts) good.writes) (ok_of good.source.tokens formless.tokens same) good.source.form)))
-      m.stopped
+      (λ h. not_subject good.asked.mode good.asked.subject s good.subject (subst (λ (a : Asked). SubjectStops told a.mode a.subject s) same h))
+      (λ h. inl (not_schedule told good.asked.schedule good.rows s good.schedule (subst (λ (a : Asked). ScheduleStops told a.schedule s) same h.1)))
+      m.cause
 
-  not_missing : (name : List ℕ) → LacksSchedule told words name → ⊥
-  not_missing name m =
-      let w = one_request words m.before.app name m.before.budget good.app good.schedule good.budget m.before.words_are good.words_are in
-      none_some [] (told name) m.lacks (ap told w.1.0 ∙ good.empty)
+  only_read : (s : Status) → (s ≡ NoMemory → ⊥) → Stops told words s → (s ≡ Done) ⊎ (s ≡ ReadFault)
+  only_read s other m = ⊎_elim inr (λ e. absurd (other e)) (only_faults s m)
 
-  not_bad : (n : ℕ) → IsBadSchedule told words n → ⊥
-  not_bad n m =
-      let w = one_request words m.before.app m.schedule m.before.budget good.app good.schedule good.budget m.before.words_are good.words_are in
-      let same = same_some m.text [] (told good.schedule) (ap told (sym w.1.0) ∙ m.read) good.empty in
-      let n = m.some in
-      let l = ap length same in
-      omega arith
-
-  not_large : (e : Fault) → IsLargeSchedule told words e → ⊥
-  not_large e m =
-      let w = one_request words m.before.app m.schedule m.before.budget good.app good.schedule good.budget m.before.words_are good.words_are in
-      let same = same_some m.text [] (told good.schedule) (ap told (sym w.1.0) ∙ m.read) good.empty in
-      let n : 262144 < length m.text = m.large in
-      let l = ap length same in
-      omega arith
-
-  pub done_or_fault : (status : Status) (o : Option Told) (text : List ℕ) → HasText o words status text → HasCause told words status → (status ≡ Done) ⊎ (status ≡ ReadFault)
-  done_or_fault Done o text h cause = inl refl
-  done_or_fault ReadFault o text h cause = inr refl
-  done_or_fault (Refused r) o text h cause = absurd (not_stopped (fault.Refused r) tt cause)
-  done_or_fault Usage o text h cause = absurd (cause (good.app, good.schedule, good.budget, good.words_are))
-  done_or_fault (Missing name) o text h cause = absurd (⊎_elim (not_stopped (fault.Missing name) tt) (not_missing name) cause)
-  done_or_fault (BadSchedule n) o text h cause = absurd (not_bad n cause)
-  done_or_fault WriteFault o text h cause = absurd h
-  done_or_fault (Limit l) o text h cause = absurd (⊎_elim (not_stopped (fault.Limit l) tt) (not_large (fault.Limit l)) cause)
-  done_or_fault (TooLarge room n) o text h cause = absurd (not_stopped (fault.TooLarge room n) tt cause)
-  done_or_fault NoMemory o text h cause = absurd h
-  done_or_fault (BadImage n) o text h cause = absurd h
-
--- the whole text of an answer was taken
-pub whole : (told : Option Told) (words : List (List ℕ)) (s : Status) (text : List ℕ) (old new : Option (List ℕ)) → HasText told words s text → new ≡ appended old text → Wrote told words s old new
-whole told words Done text old new h e = (text, h, e)
-whole told words (Refused r) text old new h e = (text, h, e)
-whole told words Usage text old new h e = (text, h, e)
-whole told words (Missing name) text old new h e = (text, h, e)
-whole told words ReadFault text old new h e = (text, h, e)
-whole told words WriteFault text old new h e = absurd h
-whole told words (BadSchedule n) text old new h e = (text, h, e)
-whole told words (Limit l) text old new h e = (text, h, e)
-whole told words (TooLarge room n) text old new h e = (text, h, e)
-whole told words NoMemory text old new h e = absurd h
-whole told words (BadImage n) text old new h e = absurd h
-
--- facts of a value, where there is one
-pub if_any : {A E : Type 0} {P : A → Type 0} (r : Result A E) → ((x : A) → P x) → IfOk r P
-if_any (Ok x) f = f x
-if_any (Err e) f = tt
-
-pub if_ok : {A E : Type 0} {P Q : A → Type 0} (r : Result A E) → ((x : A) → P x → Q x) → IfOk r P → IfOk r Q
-if_ok (Ok x) f h = f x h
-if_ok (Err e) f h = h
-
-pub if_ok_two : {A E : Type 0} {P Q R : A → Type 0} (r : Result A E) → ((x : A) → P x → Q x → R x) → IfOk r P → IfOk r Q → IfOk r R
-if_ok_two (Ok x) f h k = f x h k
-if_ok_two (Err e) f h k = h
-
-pub if_ok_three : {A E : Type 0} {P Q R S : A → Type 0} (r : Result A E) → ((x : A) → P x → Q x → R x → S x) → IfOk r P → IfOk r Q → IfOk r R → IfOk r S
-if_ok_three (Ok x) f h k l = f x h k l
-if_ok_three (Err e) f h k l = h
+  -- what is due is a run, or a fault of reading
+  pub done_or_fault : (status : Status) (o : Option Told) (board : BoardState) (text : List ℕ) → HasText o words board status text → HasCause told words status → (status ≡ Done) ⊎ (status ≡ ReadFault)
+  done_or_fault Done o board text h cause = inl refl
+  done_or_fault ReadFault o board text h cause = inr refl
+  done_or_fault (Refused r) o board text h cause = only_read (Refused r) (λ e. let k : Refused r ≡ NoMemory = e in cc) cause
+  done_or_fault Usage o board text h cause = absurd (cause (good.asked, good.words_are))
+  done_or_fault (Missing name) o board text h cause = only_read (Missing name) (λ e. let k : Missing name ≡ NoMemory = e in cc) cause
+  done_or_fault (BadSchedule n) o board text h cause = only_read (BadSchedule n) (λ e. let k : BadSchedule n ≡ NoMemory = e in cc) cause
+  done_or_fault WriteFault o board text h cause = absurd h
+  done_or_fault (Limit l) o board text h cause = only_read (Limit l) (λ e. let k : Limit l ≡ NoMemory = e in cc) cause
+  done_or_fault (TooLarge room n) o board text h cause = only_read (TooLarge room n) (λ e. let k : TooLarge room n ≡ NoMemory = e in cc) cause
+  done_or_fault NoMemory o board text h cause = absurd h
+  done_or_fault (BadImage n) o board text h cause = only_read (BadImage n) (λ e. let k : BadImage n ≡ NoMemory = e in cc) cause

@@ -1,11 +1,9 @@
 pub mod Causes
-pub mod Early
 pub mod Numerals
 pub mod Ports
 pub mod Reading
 pub mod Requests
-pub mod Slots
 pub mod Statements
-pub mod Trace
 pub mod WordLists
+pub mod Written
 pub mod Writable

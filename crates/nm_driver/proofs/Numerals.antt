@@ -63,11 +63,6 @@ some_where base ds h small = ap (λ b. cond b (Some (digits_value base ds)) None
 pub no_text : (base : ℕ) (ds : List ℕ) → base ≤ 16 → (IsUtf8 ds → ⊥) → numeral base ds ≡ None
 no_text base ds low h = none_where base ds (λ n small. h (IsUtf8-from_ascii ds (ascii base ds low n.1)))
 
--- a sign is no digit
-pub plus : (base : ℕ) (ds : List ℕ) → base ≤ 16 → get_or ds 0 0 ≡ 43 → numeral base ds ≡ None
-plus base [] low h = absurd (omega arith)
-plus base (d ∷ ds) low h = none_where base (d ∷ ds) (λ n small. let k = n.1.0 in let e : digit_value d ≡ 36 = ap digit_value h in omega arith)
-
 pub empty : (base : ℕ) (ds : List ℕ) → length ds ≡ 0 → numeral base ds ≡ None
 empty base [] h = refl
 empty base (d ∷ ds) h = absurd (omega arith)

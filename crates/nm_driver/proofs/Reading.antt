@@ -7,7 +7,7 @@ use Rattle.nm_base.specs.declared.fault.Fault.TheVariants as fault
 use Rattle.nm_base.specs.declared.token.Token.{Token}
 use Rattle.nesc_preproc.specs.Sources.{Known, nothing_known}
 use Rattle.nesc_preproc.specs.Expands.{Told, Expands, ExpandsAs}
-use Rattle.nm_driver.specs.Content.{IsNoMemory, known_in}
+use Rattle.nm_driver.specs.Prepared.{IsNoMemory, known_in}
 
 kept_is : (told : Told) (name : List ℕ) (value : Result (List Token) Fault) (new : Option Known) → (h : ExpandsAs told nothing_known name value new) → new ≡ Some (known_in new)
 kept_is told name value new h = h.is_kept ∙ ap Some (sym (ap known_in h.is_kept))

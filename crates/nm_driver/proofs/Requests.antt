@@ -11,24 +11,39 @@ use Rattle.std.specs.declared.result.Result.TheVariants.{Ok, Err}
 use Rattle.std.proofs.lemmas.Bool.{and_parts, and_from}
 use Rattle.std.proofs.lemmas.Bool.Decides.{nat_tests}
 use Rattle.std.proofs.lemmas.Str.Parse.{without_leading_plus_none}
-use Rattle.nm_driver.specs.Words.{is_budget, has_leading_zero, budget_of, AreWords, AreRunWords}
+use Rattle.nm_driver.specs.declared.words.Mode.{Mode}
+use Rattle.nm_driver.specs.declared.words.Mode.TheVariants.{Run, Mote}
+use Rattle.nm_driver.specs.Words.{Asked, is_budget, has_leading_zero, budget_of, mode_word, AreWords, AreInUse}
 use Rattle.nm_driver.proofs.Numerals.{all_digits, passes}
 
 -- ---- one request
 
-apart : (l : List (List ℕ)) (a s b t o d : List ℕ) → l ≡ codes "run" ∷ a ∷ s ∷ [] → l ≡ codes "run" ∷ b ∷ t ∷ o ∷ d ∷ [] → ⊥
-apart l a s b t o d e f = let p = ap length e in let q = ap length f in omega arith
+apart : (l : List (List ℕ)) (m a s n b t o d : List ℕ) → l ≡ m ∷ a ∷ s ∷ [] → l ≡ n ∷ b ∷ t ∷ o ∷ d ∷ [] → ⊥
+apart l m a s n b t o d e f = let p = ap length e in let q = ap length f in omega arith
 
-pub one_request : (words : List (List ℕ)) (a s : List ℕ) (n : ℕ) (b t : List ℕ) (m : ℕ) → AreWords words a s n → AreWords words b t m → (a ≡ b) × ((s ≡ t) × (n ≡ m))
-one_request words a s n b t m (inl h) (inl k) = let e = h.0 in let f = k.0 in (cc, (cc, h.1 ∙ sym k.1))
-one_request words a s n b t m (inl h) (inr k) = absurd (apart words a s b t (codes "--budget") k.0 h.0 k.1)
-one_request words a s n b t m (inr h) (inl k) = absurd (apart words b t a s (codes "--budget") h.0 k.0 h.1)
-one_request words a s n b t m (inr h) (inr k) =
-    let e = h.1 in
-    let f = k.1 in
+same_mode : (m n : Mode) → mode_word m ≡ mode_word n → m ≡ n
+same_mode Run Run e = refl
+same_mode Mote Mote e = refl
+same_mode Run Mote e = absurd (let p = ap length e in omega arith)
+same_mode Mote Run e = absurd (let p = ap length e in omega arith)
+
+same_asked : (a b : Asked) → mode_word a.mode ≡ mode_word b.mode → a.subject ≡ b.subject → a.schedule ≡ b.schedule → a.budget ≡ b.budget → a ≡ b
+same_asked a b m s t n =
+    let by_mode : Mode → Asked = λ x. record { mode = x; subject = a.subject; schedule = a.schedule; budget = a.budget } in
+    let by_subject : List ℕ → Asked = λ x. record { mode = b.mode; subject = x; schedule = a.schedule; budget = a.budget } in
+    let by_schedule : List ℕ → Asked = λ x. record { mode = b.mode; subject = b.subject; schedule = x; budget = a.budget } in
+    let by_budget : ℕ → Asked = λ x. record { mode = b.mode; subject = b.subject; schedule = b.schedule; budget = x } in
+    ap by_mode (same_mode a.mode b.mode m) ∙ ap by_subject s ∙ ap by_schedule t ∙ ap by_budget n
+
+pub one_request : (words : List (List ℕ)) (a b : Asked) → AreWords words a → AreWords words b → a ≡ b
+one_request words a b (inl h) (inl k) = let e = sym h.0 ∙ k.0 in same_asked a b (cc) (cc) (cc) (h.1 ∙ sym k.1)
+one_request words a b (inl h) (inr k) = absurd (apart words (mode_word a.mode) a.subject a.schedule (mode_word b.mode) b.subject b.schedule (codes "--budget") k.0 h.0 k.1)
+one_request words a b (inr h) (inl k) = absurd (apart words (mode_word b.mode) b.subject b.schedule (mode_word a.mode) a.subject a.schedule (codes "--budget") h.0 k.0 h.1)
+one_request words a b (inr h) (inr k) =
+    let e = sym h.1 ∙ k.1 in
     let d : h.0 ≡ k.0 = cc in
-    let v : Some n ≡ Some m = sym h.2 ∙ (ap budget_of d ∙ k.2) in
-    (cc, (cc, cc))
+    let v : Some a.budget ≡ Some b.budget = sym h.2 ∙ (ap budget_of d ∙ k.2) in
+    same_asked a b (cc) (cc) (cc) (cc)
 
 -- ---- what is a budget
 
@@ -59,16 +74,6 @@ none_where ds z h = without_zero ds z ∙ by_test (is_budget ds) refl
 
 some_where : (ds : List ℕ) → has_leading_zero ds ≡ false → IsNumeral 10 ds → digits_value 10 ds ≤ 1000000 → budget_of ds ≡ Some (digits_value 10 ds)
 some_where ds z h small = without_zero ds z ∙ ap (λ b. cond b (Some (digits_value 10 ds)) None) (holds_test ds h small)
-
-given : (ds : List ℕ) (n : ℕ) (z t : Bool) → is_budget ds ≡ t → cond z None (cond t (Some (digits_value 10 ds)) None) ≡ Some n → n ≤ 1000000
-given ds n true t e h = absurd (let k : None ≡ Some n = h in cc)
-given ds n false false e h = absurd (let k : None ≡ Some n = h in cc)
-given ds n false true e h = let p = test_holds ds e in let small = p.1 in let v : digits_value 10 ds ≡ n = cc in omega arith
-
--- a budget is at most 1000000
-pub in_range : (words : List (List ℕ)) (a s : List ℕ) (n : ℕ) → AreWords words a s n → n ≤ 1000000
-in_range words a s n (inl h) = let e = h.1 in omega arith
-in_range words a s n (inr h) = given h.0 n (has_leading_zero h.0) (is_budget h.0) refl h.2
 
 -- ---- what `parse` reads, without a sign
 
@@ -112,19 +117,28 @@ module _ {A : Type 0} (f : A → List ℕ) where
   five (u ∷ v ∷ w ∷ x ∷ y ∷ z ∷ ws) a b c d e l h i j k m = absurd (omega arith)
 
 -- words in use are three or five
-pub no_words : (l : List (List ℕ)) → (length l ≡ 3 → ⊥) → (length l ≡ 5 → ⊥) → AreRunWords l → ⊥
-no_words l h k (a, s, n, inl e) = h (ap length e.0)
-no_words l h k (a, s, n, inr e) = k (ap length e.1)
+pub no_words : (l : List (List ℕ)) → (length l ≡ 3 → ⊥) → (length l ≡ 5 → ⊥) → AreInUse l → ⊥
+no_words l h k (asked, inl e) = h (ap length e.0)
+no_words l h k (asked, inr e) = k (ap length e.1)
 
--- the first is `run`
-pub no_run : (l : List (List ℕ)) (mode : List ℕ) (rest : List (List ℕ)) → l ≡ mode ∷ rest → (mode ≡ codes "run" → ⊥) → AreRunWords l → ⊥
-no_run l mode rest w h (a, s, n, inl e) = let p = e.0 in h (cc)
-no_run l mode rest w h (a, s, n, inr e) = let p = e.1 in h (cc)
+-- the first is a mode
+pub no_mode : (l : List (List ℕ)) (mode : List ℕ) (rest : List (List ℕ)) → l ≡ mode ∷ rest → ((m : Mode) → mode ≡ mode_word m → ⊥) → AreInUse l → ⊥
+no_mode l mode rest w h (asked, inl e) = let p = sym w ∙ e.0 in h asked.mode (cc)
+no_mode l mode rest w h (asked, inr e) = let p = sym w ∙ e.1 in h asked.mode (cc)
 
 -- five words name the option
-pub not_option : (l : List (List ℕ)) (m a s o d : List ℕ) → l ≡ m ∷ a ∷ s ∷ o ∷ d ∷ [] → (o ≡ codes "--budget" → ⊥) → AreRunWords l → ⊥
-not_option l m a s o d w h (b, t, n, inl e) = absurd (let p = ap length w in let q = ap length e.0 in omega arith)
-not_option l m a s o d w h (b, t, n, inr e) = let p = e.1 in h (cc)
+pub not_option : (l : List (List ℕ)) (m a s o d : List ℕ) → l ≡ m ∷ a ∷ s ∷ o ∷ d ∷ [] → (o ≡ codes "--budget" → ⊥) → AreInUse l → ⊥
+not_option l m a s o d w h (asked, inl e) = absurd (let p = ap length w in let q = ap length e.0 in omega arith)
+not_option l m a s o d w h (asked, inr e) = let p = sym w ∙ e.1 in h (cc)
+
+-- .. and a budget
+pub not_budget : (l : List (List ℕ)) (m a s o d : List ℕ) → l ≡ m ∷ a ∷ s ∷ o ∷ d ∷ [] → budget_of d ≡ None → AreInUse l → ⊥
+not_budget l m a s o d w h (asked, inl e) = absurd (let p = ap length w in let q = ap length e.0 in omega arith)
+not_budget l m a s o d w h (asked, inr e) =
+    let p = sym w ∙ e.1 in
+    let same : d ≡ e.0 = cc in
+    let k : None ≡ Some asked.budget = sym h ∙ (ap budget_of same ∙ e.2) in
+    cc
 
 -- ---- rows
 

@@ -1,10 +1,10 @@
 pub mod Tokens
 pub mod Form
 pub mod Status
-pub mod RunText
 pub mod Words
 pub mod Lines
+pub mod RunText
+pub mod NamedFiles
+pub mod MeetsProgram
 pub mod Output
-pub mod MoteState
-pub mod Content
-pub mod Compiled
+pub mod Prepared

@@ -1,17 +1,42 @@
 //! Answers with their one line.
 
-ghost use Rattle.std.specs.Prelude.{◌≡◌, ◌++◌, ◌∷◌, [], IfOk, OnOk, codes};
-ghost use Rattle.nm_driver.specs.Lines.{detail, fault_line, limit_text, number_text, place_text, refusal_text, room_text, schedule_line, usage_line};
+ghost use Rattle.std.specs.Prelude.{◌≡◌, ◌++◌, ◌∷◌, [], IfOk, OnOk, codes, decimal};
+ghost use Rattle.nm_driver.specs.declared.answer.Stop.TheVariants.{NoMemory as StopNoMemory};
+ghost use Rattle.nm_driver.specs.Lines.{answer_line, detail, limit_text, number_text, place_text, refusal_text, room_text};
+ghost use Rattle.nm_driver.specs.Prepared.{IfSays};
 
 use crate::status::Status;
-use nm_base::{Fault, Limit, NoMemory, Refusal, Room};
-use std::alloc::Global;
+use nm_base::{Limit, NoMemory, Refusal, Room};
+use std::alloc::{AllocError, Global};
 
 /// What is to be answered, and the text that goes with it.
 #[derive(Drop)]
 pub(crate) struct Answer {
     pub status: Status,
     pub text: Vec<u8>,
+}
+
+/// Why there is no run: an answer, or want of memory.
+#[derive(Drop)]
+pub(crate) enum Stop {
+    Says(Answer),
+    NoMemory,
+}
+
+impl From<NoMemory> for Stop {
+    ghost from_gives = { λ _ e. e ≡ StopNoMemory };
+
+    fn from(_error: NoMemory) -> Stop {
+        Stop::NoMemory
+    }
+}
+
+impl From<AllocError> for Stop {
+    ghost from_gives = { λ _ e. e ≡ StopNoMemory };
+
+    fn from(_error: AllocError) -> Stop {
+        Stop::NoMemory
+    }
 }
 
 fn number_text(alloc: Global, refusal: &Refusal) -> Result<Vec<u8>, NoMemory>
@@ -85,31 +110,40 @@ fn room_line(alloc: Global, room: Room, need: u32) -> Result<Vec<u8>, NoMemory>
     Ok(text.as_bytes().to_vec(alloc)?)
 }
 
-/// The line of a fault, where a refusal stands in this file.
-pub(crate) fn fault_line(alloc: Global, file: &[u8], fault: &Fault) -> Result<Vec<u8>, NoMemory>
-    ensures { IfOk result (λ v. v.items ≡ fault_line file.now fault.now) }
+// The line about a text's first refused line.
+fn numbered_line(alloc: Global, what: &str, line: u32) -> Result<Vec<u8>, NoMemory>
+    ensures { IfOk result (λ v. v.items ≡ what.now ++ (codes " line " ++ (decimal line ++ 10 ∷ []))) }
 {
-    match fault {
-        Fault::Refused(refusal) => refusal_line(alloc, file, refusal),
-        Fault::Missing(name) => missing_line(alloc, name.as_bytes()),
-        Fault::ReadFault => Ok(b"read fault\n".to_vec(alloc)?),
-        Fault::Limit(limit) => limit_line(alloc, limit),
-        Fault::TooLarge(room, need) => room_line(alloc, *room, *need),
-        Fault::NoMemory => Ok(Vec::new(alloc)),
+    let text = format!(in alloc; "{what} line {line}\n")?;
+    Ok(text.as_bytes().to_vec(alloc)?)
+}
+
+// The line of an answer, where a refusal stands in this file.
+fn answer_line(alloc: Global, file: &[u8], status: &Status) -> Result<Vec<u8>, NoMemory>
+    ensures { IfOk result (λ v. v.items ≡ answer_line file.now status.now) }
+{
+    match status {
+        Status::Refused(refusal) => refusal_line(alloc, file, refusal),
+        Status::Usage => {
+            Ok(b"usage: nescmote MODE APP [SCHEDULE] [--budget N]\n".to_vec(alloc)?)
+        }
+        Status::Missing(name) => missing_line(alloc, name.as_bytes()),
+        Status::ReadFault => Ok(b"read fault\n".to_vec(alloc)?),
+        Status::BadSchedule(line) => numbered_line(alloc, "schedule", *line),
+        Status::BadImage(line) => numbered_line(alloc, "image", *line),
+        Status::Limit(limit) => limit_line(alloc, limit),
+        Status::TooLarge(room, need) => room_line(alloc, *room, *need),
+        Status::Done | Status::WriteFault | Status::NoMemory => Ok(Vec::new(alloc)),
     }
 }
 
-/// The line for words that are not in use.
-pub(crate) fn usage_line(alloc: Global) -> Result<Vec<u8>, NoMemory>
-    ensures { IfOk result (λ v. v.items ≡ usage_line) }
+/// The answer with this status. A refusal stands in `file`.
+pub(crate) fn says(alloc: Global, file: &[u8], status: Status) -> Stop
+    ensures status { IfSays result (λ a. a.status ≡ status) }
+    ensures text { IfSays result (λ a. a.text.items ≡ answer_line file.now status) }
 {
-    Ok(b"usage: nescmote MODE APP [SCHEDULE] [--budget N]\n".to_vec(alloc)?)
-}
-
-/// The line of a schedule's first refused line.
-pub(crate) fn schedule_line(alloc: Global, line: u32) -> Result<Vec<u8>, NoMemory>
-    ensures { IfOk result (λ v. v.items ≡ schedule_line line) }
-{
-    let text = format!(in alloc; "schedule line {line}\n")?;
-    Ok(text.as_bytes().to_vec(alloc)?)
+    match answer_line(alloc, file, &status) {
+        Ok(text) => Stop::Says(Answer { status, text }),
+        Err(NoMemory) => Stop::NoMemory,
+    }
 }

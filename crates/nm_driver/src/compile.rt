@@ -3,8 +3,8 @@
 ghost use Rattle.std.specs.Prelude.{◌≡◌, ◌≤◌, length, map, IfOk};
 ghost use Rattle.std.specs.List.{AllByRecursion};
 ghost use Rattle.nesc_core.specs.View.{program_of};
-ghost use Rattle.nm_driver.specs.Compiled.{IsCompiled};
 ghost use Rattle.nm_driver.specs.Form.{IsConstant, port_write_of};
+ghost use Rattle.nm_driver.specs.MeetsProgram.{MeetsProgram};
 ghost use Rattle.nm_driver.specs.Output.{wired};
 
 use crate::form::Constant;
@@ -28,7 +28,7 @@ pub(crate) fn compile(alloc: Global, app: &str, writes: &[Constant]) -> Result<C
     requires few { length writes.now ≤ 200 }
     requires good { AllByRecursion IsConstant writes.now }
     ensures program { IfOk result (λ c. program_of c.program ≡ wired app.now writes.now) }
-    ensures image { IfOk result (λ c. IsCompiled c) }
+    ensures meets { IfOk result (λ c. MeetsProgram (program_of c.program) c.image.code.items c.image.vectors c.image.ram c.image.stack) }
 {
     let ports = port_writes(alloc, writes)?;
     Ok(Compiled {

@@ -3,12 +3,13 @@
 
 mod answer;
 mod compile;
+mod files;
 mod form;
-mod mote;
 mod number;
-mod output;
+mod prepared;
 mod source;
 mod status;
+mod subject;
 mod tokens;
 mod top_call;
 mod wired;

@@ -1,27 +1,21 @@
 //! What an application's file gives.
 
-ghost use Rattle.std.specs.Prelude.{◌≡◌, ◌≤◌, ℕ, List, Some, IfOk};
+ghost use Rattle.std.specs.Prelude.{◌≡◌, ◌≤◌, ℕ, List, Some, IfOk, IfErr};
 ghost use Rattle.nm_base.specs.Outside.{Rose};
 ghost use Rattle.nesc_preproc.specs.Expands.{Told};
 ghost use Rattle.nm_driver.specs.Form.{HasForm};
-ghost use Rattle.nm_driver.specs.Lines.{fault_line};
-ghost use Rattle.nm_driver.specs.Output.{IfMissing, IsSource, later};
-ghost use Rattle.nm_driver.specs.Content.{IfStops, IfWrites, IsNoMemory, IsStop, fault_file, known_in, status_of};
+ghost use Rattle.nm_driver.specs.Lines.{answer_line};
+ghost use Rattle.nm_driver.specs.NamedFiles.{IsSource, later, status_of};
+ghost use Rattle.nm_driver.specs.Output.{IfMissing};
+ghost use Rattle.nm_driver.specs.Prepared.{IfSays, IsNoMemory, SaysOfSource, fault_file, known_in};
 
-use crate::answer::{Answer, fault_line};
+use crate::answer::{Stop, says};
 use crate::form::{Constant, writes_of};
 use crate::status::Status;
 use crate::tokens::spellings;
 use nesc_preproc::{Reading, expand};
-use nm_base::{Fault, Files, Left, Name, NoMemory, Pos, Refusal};
+use nm_base::{Fault, Files, Left, Name, Pos, Refusal};
 use std::alloc::Global;
-
-/// The writes of an application, or the answer about its files.
-#[derive(Drop)]
-pub(crate) enum Source {
-    Writes(Vec<Constant>),
-    Stops(Answer),
-}
 
 // The form is not built yet.
 fn later() -> Fault
@@ -64,20 +58,16 @@ fn status_of(fault: Fault) -> Status
     }
 }
 
-/// The answer to a fault, of which want of memory has none. A refusal stands in `file`.
-pub(crate) fn answer_to(alloc: Global, file: &[u8], fault: Fault) -> Result<Answer, NoMemory>
-    ensures status { IfOk result (λ a. a.status ≡ status_of fault) }
-    ensures text { IfOk result (λ a. a.text.items ≡ fault_line file.now fault) }
-    ensures found { IfOk result (λ a. IsNoMemory fault → ⊥) }
+// The answer to a fault. A refusal stands in `file`.
+fn says_fault(alloc: Global, file: &[u8], fault: Fault) -> Stop
+    ensures status { IfSays result (λ a. a.status ≡ status_of fault) }
+    ensures text { IfSays result (λ a. a.text.items ≡ answer_line file.now (status_of fault)) }
+    ensures found { IfSays result (λ a. IsNoMemory fault → ⊥) }
 {
     if let Fault::NoMemory = fault {
-        return Err(NoMemory);
+        return Stop::NoMemory;
     }
-    let text = fault_line(alloc, file, &fault)?;
-    Ok(Answer {
-        status: status_of(fault),
-        text,
-    })
+    says(alloc, file, status_of(fault))
 }
 
 /// The writes of the application `app`, whose file is `app.nc`, where it has the form.
@@ -85,32 +75,28 @@ pub(crate) fn read_source<F: Files>(
     alloc: Global,
     files: &mut F,
     app: &str,
-) -> Result<Source, NoMemory>
+) -> Result<Vec<Constant>, Stop>
     ensures same { F.texts files.new ≡ F.texts files.old }
     ensures faults { F.faults files.old ≤ F.faults files.new }
     ensures misses { (n : List ℕ) → F.misses files.old n ≤ F.misses files.new n }
-    ensures form { IfOk result (λ s. IfWrites s (λ ws. (tokens : List (List ℕ)) × HasForm app.now tokens ws)) }
-    ensures writes { IfOk result (λ s. IfWrites s (λ ws. (told : Told) → F.texts files.old ≡ Some told → IsSource told app.now ws)) }
-    ensures stops { IfOk result (λ s. IfStops s (λ a. IsStop (F.texts files.old) app.now a.status a.text.items)) }
-    ensures read_fault { IfOk result (λ s. IfStops s (λ a. a.status ≡ Status.ReadFault → Rose (F.faults files.old) (F.faults files.new))) }
-    ensures missing { IfOk result (λ s. IfStops s (λ a. IfMissing a.status (λ n. Rose (F.misses files.old n) (F.misses files.new n)))) }
+    ensures form { IfOk result (λ ws. (tokens : List (List ℕ)) × HasForm app.now tokens ws.items) }
+    ensures writes { IfOk result (λ ws. (told : Told) → F.texts files.old ≡ Some told → IsSource told app.now ws.items) }
+    ensures says { IfErr result (λ s. IfSays s (SaysOfSource (F.texts files.old) app.now)) }
+    ensures read_fault { IfErr result (λ s. IfSays s (λ a. a.status ≡ Status.ReadFault → Rose (F.faults files.old) (F.faults files.new))) }
+    ensures missing { IfErr result (λ s. IfSays s (λ a. IfMissing a.status (λ n. Rose (F.misses files.old n) (F.misses files.new n)))) }
 {
     let file = format!(in alloc; "{app}.nc")?;
     let file = Name::new(alloc, file.as_bytes())?;
     let mut reading = Reading::new(alloc);
     let tokens = match expand(alloc, files, &mut reading, &file) {
         Ok(tokens) => spellings(alloc, tokens)?,
-        Err(fault) => {
-            let answer = answer_to(alloc, fault_file(&reading, &file, &fault), fault)?;
-            return Ok(Source::Stops(answer));
-        }
+        Err(fault) => return Err(says_fault(alloc, fault_file(&reading, &file, &fault), fault)),
     };
     match writes_of(alloc, app, &tokens)? {
-        Some(writes) => Ok(Source::Writes(writes)),
+        Some(writes) => Ok(writes),
         None => {
             let fault = later();
-            let answer = answer_to(alloc, fault_file(&reading, &file, &fault), fault)?;
-            Ok(Source::Stops(answer))
+            Err(says_fault(alloc, fault_file(&reading, &file, &fault), fault))
         }
     }
 }

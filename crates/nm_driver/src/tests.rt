@@ -1,6 +1,9 @@
 //! The top call over files and a sink in memory: what no clause says, the texts themselves.
 
+ghost use Rattle.std.specs.Prelude.{◌≤◌, IfOk, vec_len};
+
 use crate::tool;
+use mote_devices::{Device, Leds, Radio, Sensor, Serial, Timer};
 use nm_base::{List, MemFiles, MemSink, Name, NoMemory};
 use std::alloc::Global;
 use std::test::Fail;
@@ -14,6 +17,15 @@ implementation {
 }
 ";
 
+const ODD: &[u8] =
+    b"module Odd { uses interface Boot; } implementation { event void Boot.booted() { port_write(0x0121, 1); } }";
+
+const ZERO: &[u8] =
+    b"module Zero { uses interface Boot; } implementation { event void Boot.booted() { port_write(0x0120, 01); } }";
+
+const NAMED_ONE: &[u8] =
+    b"module OneC { uses interface Boot; } implementation { event void Boot.booted() { } }";
+
 // Blanks of every kind, hexadecimal and decimal numbers, no blank where none is needed.
 const TIGHT: &[u8] =
     b"\r\n\tmodule Tight{uses interface Boot;}implementation{event void Boot.booted(){port_write(0x15E,0xFfFf);port_write ( 288 , 0 ) ;}}";
@@ -24,7 +36,7 @@ module/* the name */CommentedC/**/{//
 uses/**/interface/**/Boot/**/;/**/}/**/implementation/**/{/**/event/**/void/**/Boot/**/./**/booted/**/(/**/)/**/{/**/
 port_write/**/(/**/LED_PORT/**/,/**/5/**/)/**/;/**/port_write/**/(/**/LED_PORT/**/,/**/2/**/)/**/;/**/}/**/}/* the end */";
 
-const FIRST_RUN: &str = "races 0
+const FIRST_IMAGE: &str = "races 0
 data 0
 stack 4
 @4000
@@ -35,12 +47,84 @@ stack 4
 00 40 00 40 00 40 00 40 00 40 00 40 00 40 00 40
 q
 trace
-2 out 0120 5
+";
+
+const FIRST_TRACE: &str = "2 out 0120 5
 3 out 0120 2
 end slots 10000 ran 5 sp 3900 off 1
 ";
 
+// Arrivals before, with and after the writes; the mask is closed, so none is taken.
+const ARRIVALS: &[u8] = b"# a timer, a serial line, a radio
+0 arrive 1 250
+2 arrive 2 65
+9000 arrive 3 7
+10000 arrive 3 8
+";
+
+const ARRIVALS_TRACE: &str = "0 arrive 1 250
+2 arrive 2 65
+2 out 0120 5
+3 out 0120 2
+9000 arrive 3 7
+end slots 10000 ran 5 sp 3900 off 1
+";
+
+// Sets SP, and sleeps with GIE.
+const SLEEP: &[u8] = b"@4000\n31 40 00 39 32 D0 18 00\n@FFFE\n00 40\nq\n";
+
+// Enables line 2; EINT, DINT, NOP; writes 1 to 0x0120; EINT, and jumps to itself. The handler writes 2 to 0x0120.
+const GATE: &[u8] = b"@4000
+A2 42 00 01 32 D2 32 C2 03 43 92 43 20 01 32 D2
+FF 3F A2 43 20 01 00 13
+@FFE4
+12 40
+@FFFE
+00 40
+q
+";
+
+const GATE_BEFORE: &str = "0 out 0100 4
+3 arrive 2 65
+3 enter 2
+4 out 0120 2
+7 out 0120 1
+end slots 10 ran 9 sp 38fc off 0
+";
+
+const GATE_BEHIND: &str = "0 out 0100 4
+4 arrive 2 65
+4 out 0120 1
+7 enter 2
+8 out 0120 2
+end slots 10 ran 9 sp 38fc off 0
+";
+
 const USAGE: &str = "usage: nescmote MODE APP [SCHEDULE] [--budget N]\n";
+
+const FILES: [(&str, &[u8]); 21] = [
+    ("OneC.nc", ONE),
+    ("Tight.nc", TIGHT),
+    ("Odd.nc", ODD),
+    ("Zero.nc", ZERO),
+    ("Two.nc", NAMED_ONE),
+    ("CommentedC.nc", COMMENTED),
+    ("port.h", b"#define LED_PORT 0x0120\n"),
+    ("LoopC.nc", b"\n#include \"loop.h\"\n"),
+    ("loop.h", b"/* again */\n #include \"loop.h\"\n"),
+    ("none.txt", b""),
+    ("blank.txt", b"\n# nothing comes\n"),
+    ("arrivals.txt", ARRIVALS),
+    ("third.txt", b"3 arrive 2 65\n"),
+    ("fourth.txt", b"4 arrive 2 65\n"),
+    ("falls.txt", b"5 arrive 2 1\n4 arrive 2 1\n"),
+    ("ninth.txt", b"5 arrive 8 1\n"),
+    ("sleep.txt", SLEEP),
+    ("gate.txt", GATE),
+    ("half.txt", b"@4000\n31 4\n"),
+    ("twice.txt", b"@4000\n31 40\n@4001\n00\nq\n"),
+    ("endless.txt", b"@4000\n31 40\n"),
+];
 
 fn file(alloc: Global, name: &str, text: &[u8]) -> Result<(Name, List<u8>), NoMemory> {
     Ok((
@@ -51,31 +135,22 @@ fn file(alloc: Global, name: &str, text: &[u8]) -> Result<(Name, List<u8>), NoMe
 
 fn files(alloc: Global, fail: Vec<u32>) -> Result<MemFiles, NoMemory> {
     let mut all = Vec::new(alloc);
-    all.push(file(alloc, "OneC.nc", ONE)?)?;
-    all.push(file(alloc, "Tight.nc", TIGHT)?)?;
-    all.push(file(
-        alloc,
-        "Odd.nc",
-        b"module Odd { uses interface Boot; } implementation { event void Boot.booted() { port_write(0x0121, 1); } }",
-    )?)?;
-    all.push(file(
-        alloc,
-        "Zero.nc",
-        b"module Zero { uses interface Boot; } implementation { event void Boot.booted() { port_write(0x0120, 01); } }",
-    )?)?;
-    all.push(file(
-        alloc,
-        "Two.nc",
-        b"module OneC { uses interface Boot; } implementation { event void Boot.booted() { } }",
-    )?)?;
-    all.push(file(alloc, "CommentedC.nc", COMMENTED)?)?;
-    all.push(file(alloc, "port.h", b"#define LED_PORT 0x0120\n")?)?;
-    all.push(file(alloc, "LoopC.nc", b"\n#include \"loop.h\"\n")?)?;
-    all.push(file(alloc, "loop.h", b"/* again */\n #include \"loop.h\"\n")?)?;
+    for (name, text) in &FILES {
+        all.push(file(alloc, name, text)?)?;
+    }
     all.push(file(alloc, "large.txt", &vec![in alloc; b'\n'; 262_145]?)?)?;
-    all.push(file(alloc, "none.txt", b"")?)?;
-    all.push(file(alloc, "some.txt", b"\n")?)?;
     Ok(MemFiles::new(all, fail))
+}
+
+fn board(alloc: Global) -> Result<Vec<Box<dyn Device>>, NoMemory>
+    ensures { IfOk result (λ v. vec_len v ≤ 8) }
+{
+    let leds: Box<dyn Device> = Box::new(alloc, Leds::new())?;
+    let timer: Box<dyn Device> = Box::new(alloc, Timer::new())?;
+    let serial: Box<dyn Device> = Box::new(alloc, Serial::new())?;
+    let radio: Box<dyn Device> = Box::new(alloc, Radio::new())?;
+    let sensor: Box<dyn Device> = Box::new(alloc, Sensor::new())?;
+    Ok(vec![in alloc; leds, timer, serial, radio, sensor]?)
 }
 
 fn words(alloc: Global, all: &[&str]) -> Result<Vec<String>, NoMemory> {
@@ -86,7 +161,7 @@ fn words(alloc: Global, all: &[&str]) -> Result<Vec<String>, NoMemory> {
     Ok(words)
 }
 
-// The status and the text of one call.
+// The status of one call.
 fn answer(
     alloc: Global,
     all: &[&str],
@@ -95,58 +170,161 @@ fn answer(
 ) -> Result<u8, NoMemory> {
     let words = words(alloc, all)?;
     let mut files = files(alloc, fail_reads)?;
-    Ok(tool(alloc, &words, &mut files, out).code())
+    Ok(tool(alloc, &words, &mut files, out, board(alloc)?).code())
+}
+
+// Words, the status, and the text in its parts.
+type Case<'a> = (&'a [&'a str], u8, [&'a str; 2]);
+
+const CASES: [Case; 33] = [
+    (&["run", "OneC", "none.txt"], 0, [FIRST_IMAGE, FIRST_TRACE]),
+    (&["run", "OneC", "blank.txt"], 0, [FIRST_IMAGE, FIRST_TRACE]),
+    (
+        &["run", "OneC", "arrivals.txt"],
+        0,
+        [FIRST_IMAGE, ARRIVALS_TRACE],
+    ),
+    (
+        &["run", "CommentedC", "none.txt"],
+        0,
+        [FIRST_IMAGE, FIRST_TRACE],
+    ),
+    (
+        &["run", "OneC", "none.txt", "--budget", "10000"],
+        0,
+        [FIRST_IMAGE, FIRST_TRACE],
+    ),
+    (
+        &["run", "OneC", "none.txt", "--budget", "0"],
+        0,
+        [FIRST_IMAGE, "end slots 0 ran 0 sp 3900 off 0\n"],
+    ),
+    (&["run", "OneC"], 2, [USAGE, ""]),
+    (&["check", "OneC", "none.txt"], 2, [USAGE, ""]),
+    (
+        &["run", "OneC", "none.txt", "--budget", "1000001"],
+        2,
+        [USAGE, ""],
+    ),
+    (
+        &["run", "OneC", "none.txt", "--budget", "x"],
+        2,
+        [USAGE, ""],
+    ),
+    (
+        &["run", "OneC", "none.txt", "--budget", "01"],
+        2,
+        [USAGE, ""],
+    ),
+    (&["run", "OneC", "none.txt", "--slots", "1"], 2, [USAGE, ""]),
+    (&["run", "NoneC", "none.txt"], 3, ["missing NoneC.nc\n", ""]),
+    (&["run", "OneC", "gone.txt"], 3, ["missing gone.txt\n", ""]),
+    (
+        &["run", "Odd", "none.txt"],
+        1,
+        ["refused E08 Odd.nc:1:1 later\n", ""],
+    ),
+    (
+        &["run", "Zero", "none.txt"],
+        1,
+        ["refused E08 Zero.nc:1:1 later\n", ""],
+    ),
+    (
+        &["run", "Two", "none.txt"],
+        1,
+        ["refused E08 Two.nc:1:1 later\n", ""],
+    ),
+    (
+        &["run", "MainC", "none.txt"],
+        1,
+        ["refused E08 MainC.nc:1:1 later\n", ""],
+    ),
+    (
+        &["run", "LoopC", "none.txt"],
+        1,
+        ["refused E05 loop.h:2:2\n", ""],
+    ),
+    (
+        &["run", "OneC", "large.txt"],
+        7,
+        ["limit file 262145\n", ""],
+    ),
+    (
+        &["mote", "sleep.txt", "none.txt", "--budget", "5"],
+        0,
+        ["", "end slots 5 ran 2 sp 3900 off 1\n"],
+    ),
+    (
+        &["mote", "gate.txt", "third.txt", "--budget", "10"],
+        0,
+        ["", GATE_BEFORE],
+    ),
+    (
+        &["mote", "gate.txt", "fourth.txt", "--budget", "10"],
+        0,
+        ["", GATE_BEHIND],
+    ),
+    (
+        &["mote", "half.txt", "none.txt"],
+        10,
+        ["image line 2\n", ""],
+    ),
+    (
+        &["mote", "twice.txt", "none.txt"],
+        10,
+        ["image line 4\n", ""],
+    ),
+    (
+        &["mote", "endless.txt", "none.txt"],
+        10,
+        ["image line 3\n", ""],
+    ),
+    (
+        &["mote", "sleep.txt", "falls.txt"],
+        6,
+        ["schedule line 2\n", ""],
+    ),
+    (
+        &["mote", "sleep.txt", "ninth.txt"],
+        6,
+        ["schedule line 1\n", ""],
+    ),
+    (
+        &["mote", "gone.txt", "ninth.txt"],
+        3,
+        ["missing gone.txt\n", ""],
+    ),
+    (
+        &["mote", "sleep.txt", "gone.txt"],
+        3,
+        ["missing gone.txt\n", ""],
+    ),
+    (
+        &["mote", "large.txt", "gone.txt"],
+        7,
+        ["limit file 262145\n", ""],
+    ),
+    (
+        &["mote", "sleep.txt", "large.txt"],
+        7,
+        ["limit file 262145\n", ""],
+    ),
+    (&["mote", "sleep.txt"], 2, [USAGE, ""]),
+];
+
+// Whether a case has its status and its text.
+fn holds(alloc: Global, case: &Case) -> Result<bool, NoMemory> {
+    let (words, status, [head, tail]) = case;
+    let mut out = MemSink::new(alloc, 4000, Vec::new(alloc))?;
+    let found = answer(alloc, words, Vec::new(alloc), &mut out)?;
+    let text = format!(in alloc; "{head}{tail}")?;
+    Ok(found == *status && out.bytes() == text.as_bytes())
 }
 
 #[test]
 fn answers_with_its_text(rt: HostRuntime) -> Result<(), Fail> {
-    let alloc = rt.alloc();
-    let later = "refused E08 Odd.nc:1:1 later\n";
-    let cases: [(&[&str], u8, &str); 18] = [
-        (&["run", "OneC", "none.txt"], 0, FIRST_RUN),
-        (&["run", "OneC"], 2, USAGE),
-        (&["check", "OneC", "none.txt"], 2, USAGE),
-        (&["run", "NoneC", "none.txt"], 3, "missing NoneC.nc\n"),
-        (&["run", "OneC", "gone.txt"], 3, "missing gone.txt\n"),
-        (&["run", "Odd", "none.txt"], 1, later),
-        (
-            &["run", "Zero", "none.txt"],
-            1,
-            "refused E08 Zero.nc:1:1 later\n",
-        ),
-        (
-            &["run", "Two", "none.txt"],
-            1,
-            "refused E08 Two.nc:1:1 later\n",
-        ),
-        (
-            &["run", "MainC", "none.txt"],
-            1,
-            "refused E08 MainC.nc:1:1 later\n",
-        ),
-        (&["run", "OneC", "some.txt"], 6, "schedule line 1\n"),
-        (&["run", "OneC", "large.txt"], 7, "limit file 262145\n"),
-        (&["run", "CommentedC", "none.txt"], 0, FIRST_RUN),
-        (&["run", "LoopC", "none.txt"], 1, "refused E05 loop.h:2:2\n"),
-        (
-            &["run", "OneC", "none.txt", "--budget", "10000"],
-            0,
-            FIRST_RUN,
-        ),
-        (
-            &["run", "OneC", "none.txt", "--budget", "1000001"],
-            2,
-            USAGE,
-        ),
-        (&["run", "OneC", "none.txt", "--budget", "x"], 2, USAGE),
-        (&["run", "OneC", "none.txt", "--budget", "01"], 2, USAGE),
-        (&["run", "OneC", "none.txt", "--slots", "1"], 2, USAGE),
-    ];
-    for (words, status, text) in &cases {
-        let mut out = MemSink::new(alloc, 4000, Vec::new(alloc))?;
-        let found = answer(alloc, words, Vec::new(alloc), &mut out)?;
-        assert_eq!(rt; found, *status);
-        assert_eq!(rt; out.bytes(), text.as_bytes());
+    for case in &CASES {
+        assert!(rt; holds(rt.alloc(), case)?, "a case has another answer");
     }
     Ok(())
 }
@@ -172,25 +350,15 @@ end slots 10000 ran 5 sp 3900 off 1
 }
 
 #[test]
-fn runs_for_no_slot(rt: HostRuntime) -> Result<(), Fail> {
-    let alloc = rt.alloc();
-    let mut out = MemSink::new(alloc, 4000, Vec::new(alloc))?;
-    let words = ["run", "OneC", "none.txt", "--budget", "0"];
-    let status = answer(alloc, &words, Vec::new(alloc), &mut out)?;
-    assert_eq!(rt; status, 0);
-    let end: &[u8] = b"q\ntrace\nend slots 0 ran 0 sp 3900 off 0\n";
-    assert!(rt; out.bytes().ends_with(end));
-    Ok(())
-}
-
-#[test]
 fn says_what_the_outside_did(rt: HostRuntime) -> Result<(), Fail> {
     let alloc = rt.alloc();
     let run = ["run", "OneC", "none.txt"];
-    let mut out = MemSink::new(alloc, 4000, Vec::new(alloc))?;
-    let status = answer(alloc, &run, vec![in alloc; 1]?, &mut out)?;
-    assert_eq!(rt; status, 4, "the schedule's read failed");
-    assert_eq!(rt; out.bytes(), b"read fault\n".as_slice());
+    for failed in [0, 1] {
+        let mut out = MemSink::new(alloc, 4000, Vec::new(alloc))?;
+        let status = answer(alloc, &run, vec![in alloc; failed]?, &mut out)?;
+        assert_eq!(rt; status, 4, "a read failed");
+        assert_eq!(rt; out.bytes(), b"read fault\n".as_slice());
+    }
 
     let mut closed = MemSink::new(alloc, 4000, vec![in alloc; 0]?)?;
     let status = answer(alloc, &run, Vec::new(alloc), &mut closed)?;

@@ -1,14 +1,39 @@
 //! The words of the command line.
 
 ghost use Rattle.std.specs.Prelude.{◌≡◌, map, string_bytes, MatchOption};
-ghost use Rattle.nm_driver.specs.Words.{AreRunWords, AreWords, budget_of, has_leading_zero};
+ghost use Rattle.nm_driver.specs.declared.words.Mode.{Mode as ModeOf};
+ghost use Rattle.nm_driver.specs.Words.{AreInUse, AreWords, budget_of, has_leading_zero, mode_word};
 
-/// What the words ask for: an application, a schedule, and a number of slots.
+/// The most slots that the words may ask for.
+const MAX_BUDGET: u32 = 1_000_000;
+
+/// The slots of a run where the words name none.
+const DEFAULT_BUDGET: u32 = 10_000;
+
+/// What is run: an application, or an image.
+#[derive(Clone, Copy, Debug, PartialEq, Eq)]
+pub(crate) enum Mode {
+    Run,
+    Mote,
+}
+
+/// What the words ask for: an application or the file of an image, the file of a schedule, and a number of slots.
 #[derive(Clone, Copy, Debug)]
 pub(crate) struct Request<'a> {
-    pub app: &'a str,
+    pub mode: Mode,
+    pub subject: &'a str,
     pub schedule: &'a str,
     pub budget: u32,
+}
+
+fn mode_of(word: &str) -> Option<Mode>
+    ensures { MatchOption result ((m : ModeOf) → word.now ≡ mode_word m → ⊥) (λ m. word.now ≡ mode_word m) }
+{
+    match word {
+        "run" => Some(Mode::Run),
+        "mote" => Some(Mode::Mote),
+        _ => None,
+    }
 }
 
 // Whether digits begin with a 0 that is not all of them.
@@ -18,7 +43,7 @@ fn has_leading_zero(digits: &[u8]) -> bool
     digits.len() > 1 && digits[0] == b'0'
 }
 
-// The number of slots that a word spells: decimal, up to 1,000,000.
+// The number of slots that a word spells in decimal.
 fn budget_of(word: &str) -> Option<u32>
     ensures { result ≡ budget_of word.now }
 {
@@ -27,28 +52,29 @@ fn budget_of(word: &str) -> Option<u32>
         return None;
     }
     let budget = word.parse::<u32>().ok()?;
-    if budget <= 1_000_000 {
+    if budget <= MAX_BUDGET {
         Some(budget)
     } else {
         None
     }
 }
 
-/// What the words `run APP SCHEDULE [--budget N]` ask for; None where they are not in use.
+/// What the words `MODE SUBJECT SCHEDULE [--budget N]` ask for; None where they are not in use.
 pub(crate) fn request_of(words: &[String]) -> Option<Request<'_>>
-    ensures { MatchOption result (AreRunWords (map string_bytes words.now) → ⊥)
-        (λ r. AreWords (map string_bytes words.now) r.app.now r.schedule.now r.budget) }
+    ensures { MatchOption result (AreInUse (map string_bytes words.now) → ⊥)
+        (λ r. AreWords (map string_bytes words.now) (record { mode = r.mode; subject = r.subject.now; schedule = r.schedule.now; budget = r.budget })) }
 {
     match words {
-        [mode, app, schedule] if mode.as_str() == "run" => Some(Request {
-            app: app.as_str(),
+        [mode, subject, schedule] => Some(Request {
+            mode: mode_of(mode.as_str())?,
+            subject: subject.as_str(),
             schedule: schedule.as_str(),
-            budget: 10_000,
+            budget: DEFAULT_BUDGET,
         }),
-        [mode, app, schedule, option, digits]
-            if mode.as_str() == "run" && option.as_str() == "--budget" => {
+        [mode, subject, schedule, option, digits] if option.as_str() == "--budget" => {
             Some(Request {
-                app: app.as_str(),
+                mode: mode_of(mode.as_str())?,
+                subject: subject.as_str(),
                 schedule: schedule.as_str(),
                 budget: budget_of(digits.as_str())?,
             })

@@ -1,9 +1,9 @@
-use Rattle.std.proofs.Common.{map, string_bytes}
-use Rattle.nescmote.specs.Answered.{IsAnswer}
+use Rattle.std.proofs.Common.{sym}
+use Rattle.nescmote.proofs.Board.{answered}
 use Rattle.nescmote.proofs.answer.Goals as goal
 
 pub returns-in-Ok : goal.returns-in-Ok
 returns-in-Ok g c =
-    let answered : IsAnswer (g.F.Files.texts c.args.files.now) (map string_bytes c.deref.result.now) (g.S.Sink.taken c.args.out.now) (g.S.Sink.taken c.tool.new.out) c.tool.result =
-    record { usage = c.tool.ensures.usage; not_usage = c.tool.ensures.not_usage; wrote = c.tool.ensures.output } in
-    rw c.in-Ok.is (rw c.deref.ensures.value at answered)
+    let is = sym c.deref.ensures.value in
+    let answer = c.unwrap_or.ensures in
+    rw c.in-Ok.is (rw is (rw answer (answered _ _ _ c.answer_to.result c.answer_to.ensures.ok c.answer_to.ensures.err)))

@@ -14,8 +14,8 @@ pub image_of-requires-clause-good : goal.image_of-requires-clause-good
 image_of-requires-clause-good c =
     subst (AllByRecursion IsWrite) (sym (c.deref.ensures.value ∙ c.in_ok-ports.ensures)) (good_ports c.args.writes.now c.requires.good)
 
-pub returns-clause-image : goal.returns-clause-image
-returns-clause-image c =
+pub returns-clause-meets : goal.returns-clause-meets
+returns-clause-meets c =
     let app = c.args.app.now in
     let writes = c.args.writes.now in
     let image = c.in_ok-image_of.field-0 in

@@ -2,29 +2,31 @@ use Rattle.std.proofs.Common.{◌≡◌, inl, inr, Some, Ok, Err, refl, ap, sym,
 use Rattle.nm_base.specs.declared.fault.Fault.TheVariants as fault
 use Rattle.nesc_preproc.specs.Sources.{nothing_known}
 use Rattle.nesc_preproc.specs.Expands.{Expands}
-use Rattle.nm_driver.specs.Content.{fault_file, known_in, status_of}
+use Rattle.nm_driver.specs.Prepared.{fault_file, known_in}
 use Rattle.nm_driver.specs.Form.{HasForm}
-use Rattle.nm_driver.specs.Lines.{fault_line}
-use Rattle.nm_driver.specs.Output.{later, source_file}
+use Rattle.nm_driver.specs.Lines.{answer_line}
+use Rattle.nm_driver.specs.NamedFiles.{later, source_file, status_of}
 use Rattle.nm_driver.specs.Tokens.{spellings}
+use Rattle.nm_driver.proofs.Causes.{if_says_three}
 use Rattle.nm_driver.proofs.Reading.{reads_fault, reads_tokens}
 use Rattle.nm_driver.proofs.source.read_source.Goals as goal
 
-pub returns-in-Err-clause-stops : goal.returns-in-Err-clause-stops
-returns-in-Err-clause-stops g c =
+pub returns-in-Err-clause-says : goal.returns-in-Err-clause-says
+returns-in-Err-clause-says g c =
     let file : c.in_ok-file-2.file ≡ source_file c.args.app.now = c.in_ok-file-2.ensures ∙ c.as_bytes.ensures.value ∙ c.in_ok-file.ensures.ok in
-    let answer = c.in_ok-answer-in-Err in
     let known = known_in c.expand.new.state in
     let e = c.in-Err.fault in
-    record {
+    if_says_three c.says_fault.result
+    (λ a status text found. record {
       cause = e;
       known = known;
-      found = answer.ensures.found;
-      is_status = answer.ensures.status;
-      is_text = answer.ensures.text ∙ ap (λ n. fault_line n e) c.fault_file.ensures ∙ ap (λ n. fault_line (fault_file known n e) e) file;
+      found = found;
+      is_status = status;
+      is_text = text ∙ ap (λ n. answer_line n (status_of e)) c.fault_file.ensures ∙ ap (λ n. answer_line (fault_file known n e) (status_of e)) file;
       source = λ files h. inl (subst (λ n. Expands files (Some nothing_known) n (Err e) (Some known)) file
-          (reads_fault files c.in_ok-file-2.file e c.expand.new.state answer.ensures.found (rw c.new-reading.ensures at c.in-Err.ensures.expanded files h)));
-    }
+          (reads_fault files c.in_ok-file-2.file e c.expand.new.state found (rw c.new-reading.ensures at c.in-Err.ensures.expanded files h)));
+    })
+    c.says_fault.ensures.status c.says_fault.ensures.text c.says_fault.ensures.found
 
 pub returns-in-Some-clause-writes : goal.returns-in-Some-clause-writes
 returns-in-Some-clause-writes g c told h =
@@ -40,20 +42,20 @@ returns-in-Some-clause-writes g c told h =
       form = rw spelled at (rw c.in-Some.is at c.in_ok-writes.ensures);
     }
 
-pub returns-clause-stops : goal.returns-clause-stops
-returns-clause-stops g c =
+pub returns-clause-says : goal.returns-clause-says
+returns-clause-says g c =
     let file : c.in_ok-file-2.file ≡ source_file c.args.app.now = c.in_ok-file-2.ensures ∙ c.as_bytes.ensures.value ∙ c.in_ok-file.ensures.ok in
-    let answer = c.in_ok-answer-in-None in
     let known = known_in c.expand.new.state in
     let tokens = c.in-Ok.tokens.items in
     let spelled : c.deref.result.now ≡ spellings tokens = c.deref.ensures.value ∙ c.in_ok-tokens-in-Ok.ensures in
     let cause : c.later-fault.result ≡ fault.Refused later = c.later-fault.ensures in
-    record {
+    if_says_three c.says_fault-in-None.result
+    (λ a status text found. record {
       cause = fault.Refused later;
       known = known;
       found = λ h. h;
-      is_status = answer.ensures.status ∙ ap status_of cause;
-      is_text = answer.ensures.text ∙ ap (λ n. fault_line n c.later-fault.result) c.fault_file-in-None.ensures ∙ ap (λ e. fault_line (fault_file known c.in_ok-file-2.file e) e) cause ∙ ap (λ n. fault_line (fault_file known n (fault.Refused later)) (fault.Refused later)) file;
+      is_status = status ∙ ap status_of cause;
+      is_text = text ∙ ap (λ n. answer_line n (status_of c.later-fault.result)) c.fault_file-in-None.ensures ∙ ap (λ e. answer_line (fault_file known c.in_ok-file-2.file e) (status_of e)) cause ∙ ap (λ n. answer_line (fault_file known n (fault.Refused later)) (status_of (fault.Refused later))) file;
       source = λ files h. inr (
         refl,
         record {
@@ -63,4 +65,5 @@ returns-clause-stops g c =
           none = λ writes form. (rw c.in-None.is at c.in_ok-writes.ensures) writes (subst (λ ts. HasForm c.args.app.now ts writes) (sym spelled) form);
         },
       );
-    }
+    })
+    c.says_fault-in-None.ensures.status c.says_fault-in-None.ensures.text c.says_fault-in-None.ensures.found

@@ -1,0 +1,22 @@
+-- An image that does what a program allows.
+use Rattle.std.specs.Prelude.{◌≡◌, ◌≤◌, ℕ, ◌+◌, List}
+use Rattle.mote_devices.specs.declared.state.BoardState.{BoardState}
+use Rattle.mote_devices.specs.declared.shown.Due.{Due}
+use Rattle.nesc_core.specs.Plain.{Program}
+use Rattle.nesc_core.specs.Weights.{pace_of_program}
+use Rattle.core_meaning.specs.SourceOf.{source_of}
+use Rattle.msp_isa.specs.Image.{IsImage, image_map}
+use Rattle.preempt_core.specs.Mote.{mote}
+use Rattle.preempt_core.specs.Allowed.{Allowed}
+
+-- the code and vectors of an image, its bytes of data, and its stack
+pub record MeetsProgram (program : Program) (code vectors : List ℕ) (ram stack : ℕ) : Type 0 where
+  -- what a mote with the image does on every board, whatever comes in whichever slot, is what the program allows ..
+  pub allowed : (b : BoardState) (rows : List Due) (n : ℕ) → Allowed (source_of program) (pace_of_program program) b (mote (image_map code vectors) b rows) n
+  -- .. within its stack
+  pub bounded : (b : BoardState) (rows : List Due) (n : ℕ) → 0x3900 ≤ (mote (image_map code vectors) b rows n).least + stack
+  pub image : IsImage code vectors
+  -- these programs have no data
+  pub no_data : ram ≡ 0
+  -- data and stack fit the memory
+  pub fits : ram + stack ≤ 10240

@@ -1,0 +1,120 @@
+-- What is found before anything is written (own).
+use Rattle.std.specs.Prelude.{◌≡◌, ◌⊎◌, ℕ, List, [], ◌++◌, Option, Some, string_bytes, unwrap_or}
+use Rattle.nm_base.specs.declared.fault.Fault.{Fault}
+use Rattle.nm_base.specs.declared.fault.Fault.TheVariants as fault
+use Rattle.nm_base.specs.Outside.{Rose, appended, AppendsPart}
+use Rattle.nesc_preproc.specs.Sources.{Known, nothing_known}
+use Rattle.nesc_preproc.specs.Expands.{Told}
+use Rattle.mote_devices.specs.declared.state.BoardState.{BoardState}
+use Rattle.mote_devices.specs.declared.shown.Due.{Due}
+use Rattle.msp_isa.specs.Image.{bytes_map}
+use Rattle.mote_run.specs.RunText.{mote_text}
+use Rattle.nm_driver.specs.declared.answer.Answer.{Answer}
+use Rattle.nm_driver.specs.declared.answer.Stop.{Stop}
+use Rattle.nm_driver.specs.declared.answer.Stop.TheVariants as stop
+use Rattle.nm_driver.specs.declared.subject.Subject.{Subject}
+use Rattle.nm_driver.specs.declared.prepared.Prepared.{Prepared}
+use Rattle.mote_text.specs.declared.text_fault.TextFault.{TextFault}
+use Rattle.mote_text.specs.declared.text_fault.TextFault.TheVariants as text
+use Rattle.nm_driver.specs.declared.words.Mode.{Mode}
+use Rattle.nm_driver.specs.declared.words.Mode.TheVariants.{Run, Mote}
+use Rattle.nm_driver.specs.declared.status.Status.{Status}
+use Rattle.nm_driver.specs.declared.status.Status.TheVariants.{Done, Missing, ReadFault, WriteFault, BadSchedule, Limit, NoMemory, BadImage}
+use Rattle.nm_driver.specs.Lines.{answer_line}
+use Rattle.nm_driver.specs.NamedFiles.{ImageStops, IsStopped, source_file, status_of}
+use Rattle.nm_driver.specs.Output.{Prints, file_of}
+
+-- ---- answers
+
+abbrev pub IfSays : Stop → (Answer → Type 0) → Type 0
+IfSays (stop.Says answer) P = P answer
+IfSays stop.NoMemory P = Unit {0}
+
+-- an answer about a file that is no application's: its line names no place in a file
+abbrev pub IsLined : Status → Type 0
+IsLined (Missing name) = Unit {0}
+IsLined ReadFault = Unit {0}
+IsLined (BadSchedule line) = Unit {0}
+IsLined (Limit l) = Unit {0}
+IsLined (BadImage line) = Unit {0}
+IsLined _ = ⊥
+
+pub record SaysOf (told : Option Told) (Stops : Told → Status → Type 0) (answer : Answer) : Type 0 where
+  pub lined : IsLined answer.status
+  pub text : answer.text.items ≡ answer_line [] answer.status
+  pub cause : (files : Told) → told ≡ Some files → Stops files answer.status
+
+-- the answer that a text's fault gives
+abbrev pub text_status : TextFault → Status
+text_status (text.BadImage line) = BadImage line
+text_status (text.BadSchedule line) = BadSchedule line
+text_status (text.Limit limit) = Limit limit
+text_status text.NoMemory = NoMemory
+
+-- it is not want of memory
+abbrev pub IsTextFault : TextFault → Type 0
+IsTextFault text.NoMemory = ⊥
+IsTextFault _ = Unit {0}
+
+-- ---- the application's file
+
+-- nothing is known where memory ran out
+abbrev pub known_in : Option Known → Known
+known_in known = unwrap_or known nothing_known
+
+-- the name of the file in which a fault stands, where it is a refusal
+abbrev pub fault_file : Known → List ℕ → Fault → List ℕ
+fault_file known file (fault.Refused r) = file_of known file r
+fault_file known file _ = []
+
+abbrev pub IsNoMemory : Fault → Type 0
+IsNoMemory fault.NoMemory = Unit {0}
+IsNoMemory _ = ⊥
+
+-- an answer about the files of an application
+pub record SaysOfSource (told : Option Told) (app : List ℕ) (answer : Answer) : Type 0 where
+  pub cause : Fault
+  pub known : Known
+  pub found : IsNoMemory cause → ⊥
+  pub is_status : answer.status ≡ status_of cause
+  pub is_text : answer.text.items ≡ answer_line (fault_file known (source_file app) cause) (status_of cause)
+  pub source : (files : Told) → told ≡ Some files → IsStopped files app cause known
+
+abbrev pub SaysOfSubject : Option Told → Mode → List ℕ → Answer → Type 0
+SaysOfSubject told Run app answer = SaysOfSource told app answer
+SaysOfSubject told Mote name answer = SaysOf told (λ files. ImageStops files name) answer
+
+-- ---- a run
+
+-- what a run of it prints, on any board
+abbrev pub PrintsAs : Option Told → Mode → List ℕ → Subject → Type 0
+PrintsAs told mode name subject =
+    (board : BoardState) (rows : List Due) (budget : ℕ) → Prints told mode name board rows budget (string_bytes subject.head ++ mote_text (bytes_map subject.image) board rows budget)
+
+-- what a prepared run prints on a board
+abbrev pub text_on : BoardState → Prepared → List ℕ
+text_on board p = string_bytes p.subject.head ++ mote_text (bytes_map p.subject.image) board p.rows.items p.budget
+
+-- a sink has taken an answer's text, or a part of it
+abbrev pub TakesAnswer : Status → Status → Option (List ℕ) → Option (List ℕ) → ℕ → ℕ → List ℕ → Type 0
+TakesAnswer answer result old new before now text =
+    ((result ≡ answer) × (new ≡ appended old text)) ⊎ ((result ≡ WriteFault) × AppendsPart old new text × Rose before now)
+
+-- the end of a call without a run
+abbrev pub Ends : Stop → Status → Option (List ℕ) → Option (List ℕ) → ℕ → ℕ → Type 0
+Ends (stop.Says answer) result old new before now = TakesAnswer answer.status result old new before now answer.text.items
+Ends stop.NoMemory result old new before now = (result ≡ NoMemory) × (new ≡ old)
+
+-- how a run may end
+abbrev pub IsRunStatus : Status → Type 0
+IsRunStatus Done = Unit {0}
+IsRunStatus WriteFault = Unit {0}
+IsRunStatus NoMemory = Unit {0}
+IsRunStatus _ = ⊥
+
+-- what a sink has taken of a run's text, by the answer
+abbrev pub Performs : Status → Option (List ℕ) → Option (List ℕ) → ℕ → ℕ → List ℕ → Type 0
+Performs Done old new before now text = new ≡ appended old text
+Performs WriteFault old new before now text = AppendsPart old new text × Rose before now
+Performs NoMemory old new before now text = new ≡ old
+Performs _ old new before now text = ⊥
