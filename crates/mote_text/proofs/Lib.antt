@@ -5,5 +5,6 @@ pub mod EventWords
 pub mod ScheduleBack
 pub mod ImageCells
 pub mod ImageWords
+pub mod HexWord
 pub mod ImageBack
 pub mod Writing

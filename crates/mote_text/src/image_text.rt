@@ -5,7 +5,7 @@ ghost use Rattle.mote_text.specs.ImageText.{image_text, words_from, word_text, b
 ghost use Rattle.mote_text.specs.Hex.{hex_byte};
 ghost use Rattle.nm_base.specs.Outside.{AppendsPart, Rose, appended};
 
-use crate::hex::upper_digit;
+use crate::digits::upper_digit;
 use arrayvec::ArrayVec;
 use msp_isa::Image;
 use nm_base::{Sink, WriteFault, write_all};

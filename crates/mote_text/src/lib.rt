@@ -2,9 +2,9 @@
 #![tactic(auto)]
 
 mod cells;
+mod digits;
 mod end_line;
 mod event_line;
-mod hex;
 mod image_line;
 mod image_text;
 mod laws;

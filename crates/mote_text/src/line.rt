@@ -3,7 +3,7 @@
 ghost use Rattle.std.specs.Prelude.{◌≡◌, ◌≤◌, ◌+◌, ◌++◌, decimal, drop, length, take};
 ghost use Rattle.mote_text.specs.Hex.{hex_word};
 
-use crate::hex::hex_digits;
+use crate::digits::hex_digits;
 use arrayvec::ArrayVec;
 use itoa::Buffer;
 
