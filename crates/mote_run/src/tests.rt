@@ -75,38 +75,6 @@ fn sleeps(rt: HostRuntime) -> Result<(), Fail> {
 }
 
 #[test]
-fn gate_closes_one_instruction_after_dint(rt: HostRuntime) -> Result<(), Fail> {
-    let mut before = MemSink::new(rt.alloc(), 1000, vec![in rt.alloc()]?)?;
-    let mut behind = MemSink::new(rt.alloc(), 1000, vec![in rt.alloc()]?)?;
-    let first = run(rt.alloc(), GATE, b"3 arrive 2 65\n", 10, &mut before)?;
-    let second = run(rt.alloc(), GATE, b"4 arrive 2 65\n", 10, &mut behind)?;
-    assert!(rt; first.is_ok() && second.is_ok());
-    assert_eq!(rt;
-        before.bytes(),
-        b"0 out 0100 4
-3 arrive 2 65
-3 enter 2
-4 out 0120 2
-7 out 0120 1
-end slots 10 ran 9 sp 38fc off 0
-"
-            .as_slice()
-    );
-    assert_eq!(rt;
-        behind.bytes(),
-        b"0 out 0100 4
-4 arrive 2 65
-4 out 0120 1
-7 enter 2
-8 out 0120 2
-end slots 10 ran 9 sp 38fc off 0
-"
-            .as_slice()
-    );
-    Ok(())
-}
-
-#[test]
 fn tells_that_the_sink_failed(rt: HostRuntime) -> Result<(), Fail> {
     let mut sink = MemSink::new(rt.alloc(), 1000, vec![in rt.alloc(); 1]?)?;
     let end = run(rt.alloc(), GATE, b"3 arrive 2 65\n", 10, &mut sink)?;
