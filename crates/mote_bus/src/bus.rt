@@ -14,7 +14,7 @@ use crate::access::Access;
 use crate::board::{AsBoard, Slots};
 use arrayvec::ArrayVec;
 use mote_devices::Device;
-use mote_text::Loaded;
+use msp_isa::Loaded;
 use msp430_cpu::{Bus, MemoryBus};
 use nm_base::NoMemory;
 use std::alloc::Global;

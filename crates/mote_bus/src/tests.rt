@@ -4,8 +4,7 @@ ghost use Rattle.mote_devices.specs.declared.state.DevState.TheVariants as dev;
 
 use crate::{Access, Board, MoteBus};
 use mote_devices::{Device, Leds, Timer};
-use mote_text::load_image;
-use msp_isa::Image;
+use msp_isa::{Image, load_image};
 use msp430_cpu::{Bus, Cpu, Stepped};
 use std::alloc::Global;
 use std::test::Fail;

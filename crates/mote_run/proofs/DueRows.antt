@@ -6,7 +6,7 @@ use Rattle.mote_devices.specs.declared.shown.Due.{Due}
 use Rattle.mote_devices.specs.declared.shown.Given.{Given}
 use Rattle.mote_devices.specs.Board.{board_given}
 use Rattle.mote_devices.specs.Outside.{Outside, outside_given}
-use Rattle.preempt_core.specs.Mote.{due_at}
+use Rattle.mote_bus.specs.Mote.{due_at}
 use Rattle.mote_run.specs.Rows.{DoNotFallFrom, due_count, happen, board_after}
 use Rattle.mote_run.specs.Held.{Held, board_in, with_board, given_to}
 

@@ -9,7 +9,7 @@ use Rattle.msp430_cpu.specs.Cpu.{Cpu, cpuoff}
 use Rattle.msp430_cpu.specs.Memory.{memory_bus, with_ports}
 use Rattle.msp430_cpu.specs.Exec.{exec}
 use Rattle.msp430_cpu.specs.Slots.{Running, slot, counted}
-use Rattle.preempt_core.specs.Mote.{Result, result_of, due_at, mote_after, events}
+use Rattle.mote_bus.specs.Mote.{Result, result_of, due_at, mote_after, events}
 use Rattle.mote_text.specs.declared.trace.End.{End}
 use Rattle.mote_text.specs.TraceText.{trace_lines, event_line, end_text}
 use Rattle.mote_run.specs.Rows.{DoNotFallFrom, due_count, happen}

@@ -11,7 +11,7 @@ use Rattle.msp430_cpu.specs.Exec.{Joined, Step, exec}
 use Rattle.msp430_cpu.specs.Slots.{Running, at_reset, counts, is_stopped}
 use Rattle.mote_bus.specs.Slots.{Bare, bare_ports}
 use Rattle.mote_bus.specs.Accesses.{Noted, noting}
-use Rattle.preempt_core.specs.Mote.{outside_of}
+use Rattle.mote_bus.specs.Mote.{outside_of}
 use Rattle.mote_run.specs.Rows.{board_after}
 
 -- The processor and its bus, which keeps the accesses of the last step and no event. `slots`, `ran`, `least` and

@@ -10,7 +10,7 @@ use Rattle.msp430_cpu.specs.Slots.{Running, slot, is_illegal}
 use Rattle.mote_bus.specs.Laws.{entry_of}
 use Rattle.mote_text.specs.declared.trace.End.{End}
 use Rattle.mote_text.specs.TraceText.{trace_lines, end_text}
-use Rattle.preempt_core.specs.Mote.{mote, events, Result}
+use Rattle.mote_bus.specs.Mote.{mote, events, Result}
 
 -- the events of n slots, and how they ended
 abbrev pub mote_text : (ℕ → ℕ) → BoardState → List Due → ℕ → List ℕ

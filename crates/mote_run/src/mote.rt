@@ -8,7 +8,7 @@ ghost use Rattle.mote_devices.specs.Outside.{Outside, board_ports};
 ghost use Rattle.msp430_cpu.specs.Cpu.{cpuoff};
 ghost use Rattle.msp430_cpu.specs.Slots.{Running, slot};
 ghost use Rattle.mote_bus.specs.Accesses.{events_of};
-ghost use Rattle.preempt_core.specs.Mote.{mote, mote_after, events};
+ghost use Rattle.mote_bus.specs.Mote.{mote, mote_after, events};
 ghost use Rattle.mote_text.specs.TraceText.{trace_lines};
 ghost use Rattle.mote_run.specs.Rows.{DoNotFall, due_count, happen, arrivals};
 ghost use Rattle.mote_run.specs.Held.{Held, Follows, IsFresh, image_in, board_in, given_to, all_given, step_of, after_step};

@@ -6,7 +6,7 @@ ghost use Rattle.msp_isa.specs.Image.{bytes_map};
 ghost use Rattle.mote_text.specs.Cells.{cells_map};
 ghost use Rattle.mote_text.specs.ImageLines.{is_free, with_byte};
 
-use crate::Loaded;
+use msp_isa::Loaded;
 use nm_base::NoMemory;
 use std::alloc::Global;
 

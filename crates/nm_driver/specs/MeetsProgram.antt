@@ -6,7 +6,7 @@ use Rattle.nesc_core.specs.Plain.{Program}
 use Rattle.nesc_core.specs.Weights.{pace_of_program}
 use Rattle.core_meaning.specs.SourceOf.{source_of}
 use Rattle.msp_isa.specs.Image.{IsImage, image_map}
-use Rattle.preempt_core.specs.Mote.{mote}
+use Rattle.mote_bus.specs.Mote.{mote}
 use Rattle.preempt_core.specs.Allowed.{Allowed}
 
 -- the code and vectors of an image, its bytes of data, and its stack

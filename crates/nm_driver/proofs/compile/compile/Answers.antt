@@ -4,7 +4,7 @@ use Rattle.nesc_core.specs.Weights.{pace_of_program}
 use Rattle.core_meaning.specs.ConstantWrites.{IsWrite, WritesConstants}
 use Rattle.core_meaning.specs.SourceOf.{source_of}
 use Rattle.msp_isa.specs.Image.{image_map}
-use Rattle.preempt_core.specs.Mote.{mote}
+use Rattle.mote_bus.specs.Mote.{mote}
 use Rattle.preempt_core.specs.Allowed.{Allowed}
 use Rattle.nm_driver.specs.Output.{wired}
 use Rattle.nm_driver.proofs.Ports.{good_ports, wired_writes, paced}

@@ -1,5 +1,5 @@
 use Rattle.std.proofs.Common.{ℕ, List, [], ◌∷◌, ◌++◌, refl, ap, sym, ◌∙◌, append-nil}
-use Rattle.preempt_core.specs.Mote.{mote, mote_after, events}
+use Rattle.mote_bus.specs.Mote.{mote, mote_after, events}
 use Rattle.mote_text.specs.TraceText.{trace_lines, end_text}
 use Rattle.mote_run.specs.Held.{image_in, board_in}
 use Rattle.mote_run.proofs.Seen.{held_of}

@@ -2,7 +2,7 @@ use Rattle.std.proofs.Common.{◌≡◌, ℕ, ◌+◌, List, ◌++◌, arith, re
 use Rattle.std.specs.declared.result.Result.TheVariants.{Ok}
 use Rattle.msp430_cpu.specs.Slots.{Running}
 use Rattle.mote_devices.specs.Outside.{Outside}
-use Rattle.preempt_core.specs.Mote.{mote_after, events}
+use Rattle.mote_bus.specs.Mote.{mote_after, events}
 use Rattle.mote_text.specs.TraceText.{trace_lines}
 use Rattle.mote_run.specs.Rows.{happen}
 use Rattle.mote_run.specs.Held.{Follows, image_in, board_in}

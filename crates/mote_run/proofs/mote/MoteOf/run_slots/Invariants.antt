@@ -1,6 +1,6 @@
 use Rattle.std.proofs.Common.{◌≤◌}
 use Rattle.std.specs.declared.result.Result.TheVariants.{Ok}
-use Rattle.preempt_core.specs.Mote.{mote_after, events}
+use Rattle.mote_bus.specs.Mote.{mote_after, events}
 use Rattle.mote_text.specs.TraceText.{trace_lines}
 use Rattle.mote_run.specs.Held.{Follows, image_in, board_in}
 use Rattle.mote_run.specs.Writes.{Writes}

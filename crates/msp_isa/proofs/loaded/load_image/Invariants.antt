@@ -1,7 +1,7 @@
 use Rattle.std.proofs.Common.{◌≡◌, ◌<◌, ◌+◌, ℕ, length}
 use Rattle.std.specs.Prelude.{slice_index}
 use Rattle.msp_isa.specs.Image.{image_map}
-use Rattle.mote_text.proofs.loaded.load_image.Given as goal
+use Rattle.msp_isa.proofs.loaded.load_image.Given as goal
 
 -- a byte for each address so far
 abbrev pub invariant-loop-offset : goal.invariant-loop-offset

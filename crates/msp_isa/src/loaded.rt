@@ -3,7 +3,7 @@
 ghost use Rattle.std.specs.Prelude.{◌≡◌, IfOk, length};
 ghost use Rattle.msp_isa.specs.Image.{byte_of, bytes_map, image_map};
 
-use msp_isa::Image;
+use crate::Image;
 use nm_base::NoMemory;
 use std::alloc::Global;
 use std::marker::Model;
@@ -25,7 +25,8 @@ impl Model for Loaded {
 }
 
 impl Loaded {
-    pub(crate) fn from_bytes(bytes: Vec<u8>) -> Loaded
+    /// The memory that these bytes are, of which there are 49,152.
+    pub fn from_bytes(bytes: Vec<u8>) -> Loaded
         requires { length bytes.items ≡ 49152 }
         ensures { result ≡ bytes.items }
     {

@@ -4,7 +4,7 @@ use Rattle.std.proofs.Math.Path.{fun_ext}
 use Rattle.std.proofs.lemmas.Bool.Decides.{nat_tests}
 use Rattle.std.proofs.lemmas.List.{get_or_past}
 use Rattle.msp_isa.specs.Image.{byte_of, image_map}
-use Rattle.mote_text.proofs.loaded.load_image.Goals as goal
+use Rattle.msp_isa.proofs.loaded.load_image.Goals as goal
 
 module _ (code vectors : List ℕ) (a : ℕ) where
   abbrev by_tests : Bool → Bool → Bool → Bool → ℕ
