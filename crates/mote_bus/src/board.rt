@@ -4,7 +4,7 @@ ghost use Rattle.std.specs.Prelude.{◌≡◌, ◌≤◌, ◌<◌, ◌^◌, ◌%
 ghost use Rattle.std.specs.Option.{option_map};
 ghost use Rattle.mote_devices.specs.declared.state.BoardState.{BoardState};
 ghost use Rattle.mote_devices.specs.declared.shown.Given.TheVariants.{Arrive, Unplug};
-ghost use Rattle.mote_devices.specs.Board.{device, board_answer, board_read, board_write, board_given, board_ack, line_of, line_below, request_bits, with_closed_mask};
+ghost use Rattle.mote_devices.specs.Board.{device, board_answer, board_read, board_write, board_given, board_ack, line_of, line_below, is_requested, request_bits, with_closed_mask};
 ghost use Rattle.mote_devices.specs.Outside.{first_code};
 ghost use Rattle.mote_bus.specs.Slots.{Bare, board_with, board_of, bare_ports};
 
@@ -133,11 +133,21 @@ impl<D: Device> Slots<D> {
         self.stopped = None;
     }
 
-    /// The greatest requested line.
+    /// The greatest requested line. A device is asked only where the mask lets its line in.
     pub fn line(&self) -> Option<u8>
         ensures { result ≡ line_of (⟦<Slots<D> as AsBoard>⟧.board self.now) }
     {
+        if self.mask == 0 {
+            return None;
+        }
         self.line_below(8)
+    }
+
+    fn is_requested(&self, k: u8) -> bool
+        requires { k < 8 }
+        ensures { result ≡ is_requested (⟦<Slots<D> as AsBoard>⟧.board self.now) k }
+    {
+        (self.mask >> k) % 2 == 1 && slot::requests(&self.slots[usize::from(k)])
     }
 
     /// Takes the acceptance of line `k`.
@@ -167,7 +177,7 @@ impl<D: Device> Slots<D> {
             return None;
         }
         let line = k - 1;
-        if slot::requests(&self.slots[usize::from(line)]) && (self.mask >> line) % 2 == 1 {
+        if self.is_requested(line) {
             Some(line)
         } else {
             self.line_below(line)
@@ -203,7 +213,7 @@ impl<D: Device> Ports for Slots<D> {
     }
 
     fn line(&self) -> Option<u8> {
-        self.line_below(8)
+        Slots::line(self)
     }
 
     fn accept(&mut self, line: u8) {
