@@ -1,4 +1,3 @@
 pub mod Rows
 pub mod Held
-pub mod Writes
 pub mod RunText

@@ -12,7 +12,7 @@ ghost use Rattle.mote_bus.specs.Mote.{mote, mote_after, events};
 ghost use Rattle.mote_text.specs.TraceText.{trace_lines};
 ghost use Rattle.mote_run.specs.Rows.{DoNotFall, due_count, happen, arrivals};
 ghost use Rattle.mote_run.specs.Held.{Held, Follows, IsFresh, image_in, board_in, given_to, all_given, step_of, after_step};
-ghost use Rattle.mote_run.specs.Writes.{Writes};
+ghost use Rattle.nm_base.specs.Outside.{Writes};
 ghost use Rattle.mote_run.specs.RunText.{mote_text, EndsAs, shown_behind as events_behind, in_slot, slot_events};
 
 use crate::stepped::{instructions, is_stop, shown_behind};
@@ -113,7 +113,7 @@ impl<D: Device> MoteOf<D> {
     // The rows happen, and each is shown.
     fn take_due<S: Sink>(&mut self, number: u32, due: &[Due], out: &mut S) -> Result<(), WriteFault>
         ensures held { OnOk result (⟦<MoteOf<D> as AsMote>⟧.held self.new ≡ all_given (⟦<MoteOf<D> as AsMote>⟧.held self.old) due.now) }
-        ensures wrote { Writes result (S.taken out.old) (S.taken out.new) (S.faults out.old) (S.faults out.new) (trace_lines (in_slot number (arrivals due.now))) }
+        ensures wrote { Writes result (S.seen out.old) (S.seen out.new) (trace_lines (in_slot number (arrivals due.now))) }
         ensures slots { self.new.slots ≡ self.old.slots }
         ensures ran { self.new.ran ≡ self.old.ran }
     {
@@ -135,7 +135,7 @@ impl<D: Device> MoteOf<D> {
         requires slots { self.old.slots + 1 < 2 ^ 32 }
         requires ran { self.old.ran + 1 < 2 ^ 32 }
         ensures follows { (running : Running Outside) → Follows (⟦<MoteOf<D> as AsMote>⟧.held self.old) running → OnOk result (Follows (⟦<MoteOf<D> as AsMote>⟧.held self.new) (slot board_ports (happen due.now) running)) }
-        ensures wrote { (running : Running Outside) → Follows (⟦<MoteOf<D> as AsMote>⟧.held self.old) running → Writes result (S.taken out.old) (S.taken out.new) (S.faults out.old) (S.faults out.new) (trace_lines (slot_events number (happen due.now) running)) }
+        ensures wrote { (running : Running Outside) → Follows (⟦<MoteOf<D> as AsMote>⟧.held self.old) running → Writes result (S.seen out.old) (S.seen out.new) (trace_lines (slot_events number (happen due.now) running)) }
         ensures slots { self.new.slots ≤ self.old.slots + 1 }
         ensures ran { self.new.ran ≤ self.old.ran + 1 }
     {
@@ -154,7 +154,7 @@ impl<D: Device> MoteOf<D> {
         requires fresh { IsFresh (⟦<MoteOf<D> as AsMote>⟧.held self.old) }
         requires order { DoNotFall schedule.now }
         ensures follows { let m = ⟦<MoteOf<D> as AsMote>⟧.held self.old in OnOk result (Follows (⟦<MoteOf<D> as AsMote>⟧.held self.new) (mote_after (image_in m) (board_in m) schedule.now budget)) }
-        ensures wrote { let m = ⟦<MoteOf<D> as AsMote>⟧.held self.old in Writes result (S.taken out.old) (S.taken out.new) (S.faults out.old) (S.faults out.new) (trace_lines (events (image_in m) (board_in m) schedule.now budget)) }
+        ensures wrote { let m = ⟦<MoteOf<D> as AsMote>⟧.held self.old in Writes result (S.seen out.old) (S.seen out.new) (trace_lines (events (image_in m) (board_in m) schedule.now budget)) }
     {
         let mut rest = schedule;
         for slot in 0..budget {
@@ -179,7 +179,7 @@ impl<D: Device> MoteOf<D> {
     ) -> Result<End, WriteFault>
         requires fresh { IsFresh (⟦<MoteOf<D> as AsMote>⟧.held self.old) }
         requires order { DoNotFall schedule.now }
-        ensures wrote { let m = ⟦<MoteOf<D> as AsMote>⟧.held self.old in Writes result (S.taken out.old) (S.taken out.new) (S.faults out.old) (S.faults out.new) (mote_text (image_in m) (board_in m) schedule.now budget) }
+        ensures wrote { let m = ⟦<MoteOf<D> as AsMote>⟧.held self.old in Writes result (S.seen out.old) (S.seen out.new) (mote_text (image_in m) (board_in m) schedule.now budget) }
         ensures ended { let m = ⟦<MoteOf<D> as AsMote>⟧.held self.old in IfOk result (λ end. EndsAs end (mote (image_in m) (board_in m) schedule.now budget)) }
         ensures follows { let m = ⟦<MoteOf<D> as AsMote>⟧.held self.old in OnOk result (Follows (⟦<MoteOf<D> as AsMote>⟧.held self.new) (mote_after (image_in m) (board_in m) schedule.now budget)) }
     {
@@ -212,7 +212,7 @@ fn write_step<S: Sink>(
     accesses: &[Access],
     stepped: Stepped,
 ) -> Result<(), WriteFault>
-    ensures { Writes result (S.taken out.old) (S.taken out.new) (S.faults out.old) (S.faults out.new) (trace_lines (in_slot number (events_of accesses.now ++ events_behind stepped))) }
+    ensures { Writes result (S.seen out.old) (S.seen out.new) (trace_lines (in_slot number (events_of accesses.now ++ events_behind stepped))) }
 {
     for access in accesses {
         write_shown(out, number, access.shown())?;
@@ -221,7 +221,7 @@ fn write_step<S: Sink>(
 }
 
 fn write_shown<S: Sink>(out: &mut S, number: u32, shown: Option<Shown>) -> Result<(), WriteFault>
-    ensures { Writes result (S.taken out.old) (S.taken out.new) (S.faults out.old) (S.faults out.new) (trace_lines (in_slot number (option_to_list shown))) }
+    ensures { Writes result (S.seen out.old) (S.seen out.new) (trace_lines (in_slot number (option_to_list shown))) }
 {
     match shown {
         Some(shown) => write_event(out, number, shown),

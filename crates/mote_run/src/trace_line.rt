@@ -2,7 +2,7 @@
 
 ghost use Rattle.std.specs.Prelude.{◌≡◌, ◌+◌, ◌≤◌, ◌++◌, ◌∷◌, [], length};
 ghost use Rattle.mote_text.specs.TraceText.{event_line, end_text};
-ghost use Rattle.mote_run.specs.Writes.{Writes};
+ghost use Rattle.nm_base.specs.Outside.{Writes};
 
 use arrayvec::ArrayVec;
 use mote_devices::Shown;
@@ -14,7 +14,7 @@ type Line = ArrayVec<u8, 65>;
 
 /// Writes the line of an event.
 pub(crate) fn write_event<S: Sink>(out: &mut S, slot: u32, shown: Shown) -> Result<(), WriteFault>
-    ensures { Writes result (S.taken out.old) (S.taken out.new) (S.faults out.old) (S.faults out.new) (event_line (slot, shown)) }
+    ensures { Writes result (S.seen out.old) (S.seen out.new) (event_line (slot, shown)) }
 {
     let mut text = [0; 64];
     let length = print_event(&Event { slot, shown }, &mut text);
@@ -23,7 +23,7 @@ pub(crate) fn write_event<S: Sink>(out: &mut S, slot: u32, shown: Shown) -> Resu
 
 /// Writes the last line.
 pub(crate) fn write_end<S: Sink>(out: &mut S, end: &End) -> Result<(), WriteFault>
-    ensures { Writes result (S.taken out.old) (S.taken out.new) (S.faults out.old) (S.faults out.new) (end_text end.now.slots end.now.ran end.now.least end.now.off ++ 10 ∷ []) }
+    ensures { Writes result (S.seen out.old) (S.seen out.new) (end_text end.now.slots end.now.ran end.now.least end.now.off ++ 10 ∷ []) }
 {
     let mut text = [0; 64];
     let length = print_end(end, &mut text);
@@ -33,7 +33,7 @@ pub(crate) fn write_end<S: Sink>(out: &mut S, end: &End) -> Result<(), WriteFaul
 // Writes a line in one piece.
 fn write_line<S: Sink>(out: &mut S, text: &[u8]) -> Result<(), WriteFault>
     requires { length text.now ≤ 64 }
-    ensures { Writes result (S.taken out.old) (S.taken out.new) (S.faults out.old) (S.faults out.new) (text.now ++ 10 ∷ []) }
+    ensures { Writes result (S.seen out.old) (S.seen out.new) (text.now ++ 10 ∷ []) }
 {
     let mut line = Line::new();
     push(&mut line, text);

@@ -1,8 +1,9 @@
 //! What a reader sees: the text of an image, and the lines of a trace.
 
-use crate::{End, Event, print_end, print_event, push_image};
+use crate::{End, Event, print_end, print_event, print_image};
 use mote_devices::{Given, Shown};
 use msp_isa::Image;
+use nm_base::MemSink;
 use std::test::Fail;
 
 // Two full lines and a half.
@@ -39,9 +40,9 @@ fn prints_an_image(rt: HostRuntime) -> Result<(), Fail> {
         ram: 0,
         stack: 4,
     };
-    let mut text = String::new(rt.alloc());
-    push_image(&mut text, &image)?;
-    assert_eq!(rt; text.as_str(), IMAGE_TEXT);
+    let mut sink = MemSink::new(rt.alloc(), 4096, Vec::new(rt.alloc()))?;
+    assert!(rt; print_image(&image, &mut sink).is_ok());
+    assert_eq!(rt; sink.bytes(), IMAGE_TEXT.as_bytes());
     Ok(())
 }
 

@@ -2,7 +2,7 @@
 use Rattle.std.specs.Prelude.{◌≡◌, ℕ, ◌≤◌, Bool, List, length, Option, Some, None, Result, OnOk, Ok, Err, Vec}
 use Rattle.std.specs.declared.alloc.Global.{Global}
 use Rattle.nm_base.specs.declared.token.Token.{Token}
-use Rattle.nm_base.specs.Outside.{Rose}
+use Rattle.nm_base.specs.Outside.{FilesSeen, IsReadBy}
 use Rattle.nesc_macros.specs.Invocation.{Name}
 use Rattle.nesc_preproc.specs.Expands.{Told, IfMissing}
 use Rattle.nm_base.specs.declared.fault.Fault.{Fault}
@@ -51,13 +51,9 @@ GivesIn (Ok header) now f = Settles f (record { value = Ok (header_of header); n
 GivesIn (Err fault.NoMemory) now f = Unit {0}
 GivesIn (Err e) now f = Settles f (stops e (situation_of now))
 
--- what the outside counted meanwhile
-pub record Counts {A : Type 0} (r : Result A Fault) (told now-told : Option Told) (faults now-faults : ℕ) (misses now-misses : Name → ℕ) : Type 0 where
-  pub same : now-told ≡ told
-  pub faults_kept : faults ≤ now-faults
-  pub misses_kept : (n : Name) → misses n ≤ now-misses n
-  pub read_fault : r ≡ Err fault.ReadFault → Rose faults now-faults
-  pub missing : IfMissing r (λ n. Rose (misses n) (now-misses n))
+-- what the outside tells and counted meanwhile
+abbrev pub Counts : {A : Type 0} → Result A Fault → FilesSeen → FilesSeen → Type 0
+Counts r old new = IsReadBy (λ P. r ≡ Err fault.ReadFault → P) (IfMissing r) old new
 
 -- no file is opened, and the count stays within its limit
 pub record KeepsFiles (r : Result (Unit {0}) Fault) (old new : Context) : Type 0 where

@@ -1,7 +1,7 @@
 //! The tokens of a file after its directives and macros.
 
 ghost use Rattle.std.specs.Prelude.{◌≡◌, ℕ, ◌≤◌, List as ListOf, Some, Err};
-ghost use Rattle.nm_base.specs.Outside.{Rose};
+
 ghost use Rattle.nesc_preproc.specs.Expands.{Told, Expands, IfMissing, KeepsAs, answer_of, is_memory};
 ghost use Rattle.nesc_preproc.specs.Kept.{known_of};
 ghost use Rattle.nesc_preproc.specs.Answers.{Counts};
@@ -23,8 +23,8 @@ fn expand_known<F: Files>(
     mut known: KnownFiles,
     name: &Name,
 ) -> (KnownFiles, Result<Vec<Token>, Fault>)
-    ensures outside { Counts result.1 (F.texts files.old) (F.texts files.new) (F.faults files.old) (F.faults files.new) (F.misses files.old) (F.misses files.new) }
-    ensures expanded { (told : Told) → F.texts files.old ≡ Some told → KeepsAs told (known_of known) name.now (answer_of result.1) (known_of result.0) }
+    ensures outside { Counts result.1 (F.seen files.old) (F.seen files.new) }
+    ensures expanded { (told : Told) → (F.seen files.old).texts ≡ Some told → KeepsAs told (known_of known) name.now (answer_of result.1) (known_of result.0) }
 {
     one_lexing();
     let tokens = match open_file(alloc, files, &mut known, name) {
@@ -57,12 +57,8 @@ pub fn expand<F: Files>(
     state: &mut Reading,
     name: &Name,
 ) -> Result<Vec<Token>, Fault>
-    ensures same { F.texts files.new ≡ F.texts files.old }
-    ensures faults { F.faults files.old ≤ F.faults files.new }
-    ensures misses { (n : ListOf ℕ) → F.misses files.old n ≤ F.misses files.new n }
-    ensures read_fault { result ≡ Err Fault.ReadFault → Rose (F.faults files.old) (F.faults files.new) }
-    ensures missing { IfMissing result (λ n. Rose (F.misses files.old n) (F.misses files.new n)) }
-    ensures expanded { (told : Told) → F.texts files.old ≡ Some told → Expands told state.old name.now (answer_of result) state.new }
+    ensures outside { Counts result (F.seen files.old) (F.seen files.new) }
+    ensures expanded { (told : Told) → (F.seen files.old).texts ≡ Some told → Expands told state.old name.now (answer_of result) state.new }
 {
     if state.spent {
         return Err(Fault::NoMemory);

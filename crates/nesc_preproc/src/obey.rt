@@ -58,8 +58,8 @@ fn include<F: Files>(
     pos: Pos,
     line: &[Token],
 ) -> Result<Vec<Token>, Fault>
-    ensures outside { Counts result (F.texts files.old) (F.texts files.new) (F.faults files.old) (F.faults files.new) (F.misses files.old) (F.misses files.new) }
-    ensures included { (world : World) → IsTold (F.texts files.old) world → IsLexing world.lexed → Allows result world.broken (length context.new.known.texts.items)
+    ensures outside { Counts result (F.seen files.old) (F.seen files.new) }
+    ensures included { (world : World) → IsTold (F.seen files.old).texts world → IsLexing world.lexed → Allows result world.broken (length context.new.known.texts.items)
         → Includes result context.new (included world depth pos (situation_of context.old) (included_by line.now)) }
     ensures numbers { OnOk result (length context.old.known.texts.items ≤ length context.new.known.texts.items) }
     ensures unread { result ≡ Err Fault.ReadFault → length context.old.known.texts.items ≤ length context.new.known.texts.items }
@@ -92,8 +92,8 @@ fn obey_plain<F: Files>(
     line: &[Token],
 ) -> Result<Option<Vec<Token>>, Fault>
     requires within { context.old.known.tokens ≤ max_tokens }
-    ensures outside { Counts result (F.texts files.old) (F.texts files.new) (F.faults files.old) (F.faults files.new) (F.misses files.old) (F.misses files.new) }
-    ensures obeyed { (world : World) → IsTold (F.texts files.old) world → IsLexing world.lexed → Allows result world.broken (length context.new.known.texts.items)
+    ensures outside { Counts result (F.seen files.old) (F.seen files.new) }
+    ensures obeyed { (world : World) → IsTold (F.seen files.old).texts world → IsLexing world.lexed → Allows result world.broken (length context.new.known.texts.items)
         → Gives result context.new (plain world depth pos line.now (situation_of context.old) directive) }
     ensures numbers { OnOk result (length context.old.known.texts.items ≤ length context.new.known.texts.items) }
     ensures unread { result ≡ Err Fault.ReadFault → length context.old.known.texts.items ≤ length context.new.known.texts.items }
@@ -125,8 +125,8 @@ pub(crate) fn obey<F: Files>(
     line: &[Token],
 ) -> Result<Option<Vec<Token>>, Fault>
     requires within { context.old.known.tokens ≤ max_tokens }
-    ensures outside { Counts result (F.texts files.old) (F.texts files.new) (F.faults files.old) (F.faults files.new) (F.misses files.old) (F.misses files.new) }
-    ensures obeyed { (world : World) → IsTold (F.texts files.old) world → IsLexing world.lexed → Allows result world.broken (length context.new.known.texts.items)
+    ensures outside { Counts result (F.seen files.old) (F.seen files.new) }
+    ensures obeyed { (world : World) → IsTold (F.seen files.old).texts world → IsLexing world.lexed → Allows result world.broken (length context.new.known.texts.items)
         → GivesIn result context.new (λ steps. obeyed steps world depth pos line.now (situation_of context.old)) }
     ensures numbers { OnOk result (length context.old.known.texts.items ≤ length context.new.known.texts.items) }
     ensures unread { result ≡ Err Fault.ReadFault → length context.old.known.texts.items ≤ length context.new.known.texts.items }

@@ -88,8 +88,8 @@ impl Scan {
         requires directive { begins_directive hash ≡ true }
         requires within { self.old.context.known.tokens ≤ max_tokens }
         requires depth { length self.old.outer.items < max_open }
-        ensures outside { Counts result (F.texts files.old) (F.texts files.new) (F.faults files.old) (F.faults files.new) (F.misses files.old) (F.misses files.new) }
-        ensures leads { (world : World) → IsTold (F.texts files.old) world → IsLexing world.lexed → Allows result world.broken (length self.new.context.known.texts.items) → LeadsBehind result world hash self.old self.new }
+        ensures outside { Counts result (F.seen files.old) (F.seen files.new) }
+        ensures leads { (world : World) → IsTold (F.seen files.old).texts world → IsLexing world.lexed → Allows result world.broken (length self.new.context.known.texts.items) → LeadsBehind result world hash self.old self.new }
         ensures numbers { OnOk result (length self.old.context.known.texts.items ≤ length self.new.context.known.texts.items) }
         ensures unread { result ≡ Err Fault.ReadFault → length self.old.context.known.texts.items ≤ length self.new.context.known.texts.items }
         ensures within { OnOk result (self.new.context.known.tokens ≤ max_tokens) }
@@ -150,8 +150,8 @@ impl Scan {
     pub fn step<F: Files>(&mut self, alloc: Global, files: &mut F) -> Result<bool, Fault>
         requires within { self.old.context.known.tokens ≤ max_tokens }
         requires depth { length self.old.outer.items < max_open }
-        ensures outside { Counts result (F.texts files.old) (F.texts files.new) (F.faults files.old) (F.faults files.new) (F.misses files.old) (F.misses files.new) }
-        ensures leads { (world : World) → IsTold (F.texts files.old) world → IsLexing world.lexed → Allows result world.broken (length self.new.context.known.texts.items) → Leads result world self.old self.new }
+        ensures outside { Counts result (F.seen files.old) (F.seen files.new) }
+        ensures leads { (world : World) → IsTold (F.seen files.old).texts world → IsLexing world.lexed → Allows result world.broken (length self.new.context.known.texts.items) → Leads result world self.old self.new }
         ensures numbers { OnOk result (length self.old.context.known.texts.items ≤ length self.new.context.known.texts.items) }
         ensures unread { result ≡ Err Fault.ReadFault → length self.old.context.known.texts.items ≤ length self.new.context.known.texts.items }
         ensures within { OnOk result (self.new.context.known.tokens ≤ max_tokens) }
@@ -173,8 +173,8 @@ impl Scan {
     pub fn run<F: Files>(&mut self, alloc: Global, files: &mut F) -> Result<(), Fault>
         requires within { self.old.context.known.tokens ≤ max_tokens }
         requires depth { length self.old.outer.items < max_open }
-        ensures outside { Counts result (F.texts files.old) (F.texts files.new) (F.faults files.old) (F.faults files.new) (F.misses files.old) (F.misses files.new) }
-        ensures leads { (world : World) → IsTold (F.texts files.old) world → IsLexing world.lexed → Allows result world.broken (length self.new.context.known.texts.items) → RunsTo result world self.old self.new }
+        ensures outside { Counts result (F.seen files.old) (F.seen files.new) }
+        ensures leads { (world : World) → IsTold (F.seen files.old).texts world → IsLexing world.lexed → Allows result world.broken (length self.new.context.known.texts.items) → RunsTo result world self.old self.new }
         ensures unread { result ≡ Err Fault.ReadFault → length self.old.context.known.texts.items ≤ length self.new.context.known.texts.items }
     {
         while self.step(alloc, files)? {}

@@ -1,7 +1,7 @@
 //! Opening files.
 
 ghost use Rattle.std.specs.Prelude.{◌≡◌, ◌+◌, ◌<◌, ◌≤◌, [], ℕ, List as ListOf, length, slice_index_or, Err, IfErr, OnOk};
-ghost use Rattle.nm_base.specs.Outside.{Rose};
+
 ghost use Rattle.nesc_macros.specs.Expansion.{max_tokens};
 ghost use Rattle.nesc_preproc.specs.Sources.{World, IsLexing, fetched, fetched_as, file_too_large, max_file, opened, scanned_in, sized, weight};
 ghost use Rattle.nesc_preproc.specs.Expands.{IfMissing};
@@ -15,12 +15,8 @@ use std::alloc::Global;
 
 // The text of a file that was not read before.
 fn fetch<F: Files>(alloc: Global, files: &mut F, name: &Name) -> Result<Vec<u8>, Fault>
-    ensures same { F.texts files.new ≡ F.texts files.old }
-    ensures faults { F.faults files.old ≤ F.faults files.new }
-    ensures misses { (n : ListOf ℕ) → F.misses files.old n ≤ F.misses files.new n }
-    ensures read_fault { result ≡ Err Fault.ReadFault → Rose (F.faults files.old) (F.faults files.new) }
-    ensures missing { IfMissing result (λ n. Rose (F.misses files.old n) (F.misses files.new n)) }
-    ensures text { (world : World) (k : ℕ) → IsTold (F.texts files.old) world → Fetches result world.broken k (fetched world k name.now) }
+    ensures outside { Counts result (F.seen files.old) (F.seen files.new) }
+    ensures text { (world : World) (k : ℕ) → IsTold (F.seen files.old).texts world → Fetches result world.broken k (fetched world k name.now) }
 {
     if let Some(text) = built_in_text(name) {
         return Ok(text.as_bytes().to_vec(alloc)?);
@@ -86,12 +82,8 @@ fn open_new<F: Files>(
     name: &Name,
     built_in: bool,
 ) -> Result<Vec<Token>, Fault>
-    ensures same { F.texts files.new ≡ F.texts files.old }
-    ensures faults { F.faults files.old ≤ F.faults files.new }
-    ensures misses { (n : ListOf ℕ) → F.misses files.old n ≤ F.misses files.new n }
-    ensures read_fault { result ≡ Err Fault.ReadFault → Rose (F.faults files.old) (F.faults files.new) }
-    ensures missing { IfMissing result (λ n. Rose (F.misses files.old n) (F.misses files.new n)) }
-    ensures opened { (world : World) → IsTold (F.texts files.old) world → IsLexing world.lexed → Breaks result world.broken (length known.old.texts.items)
+    ensures outside { Counts result (F.seen files.old) (F.seen files.new) }
+    ensures opened { (world : World) → IsTold (F.seen files.old).texts world → IsLexing world.lexed → Breaks result world.broken (length known.old.texts.items)
         → OpenedAs result known.new (fetched_as world built_in name.now (fetched world (length known.old.texts.items) name.now) (known_of known.old)) }
     ensures within { OnOk result (known.new.tokens ≤ max_tokens) }
     ensures numbers { OnOk result (length known.new.texts.items ≡ length known.old.texts.items + 1) }
@@ -131,12 +123,8 @@ pub(crate) fn open_file<F: Files>(
     known: &mut KnownFiles,
     name: &Name,
 ) -> Result<Vec<Token>, Fault>
-    ensures same { F.texts files.new ≡ F.texts files.old }
-    ensures faults { F.faults files.old ≤ F.faults files.new }
-    ensures misses { (n : ListOf ℕ) → F.misses files.old n ≤ F.misses files.new n }
-    ensures read_fault { result ≡ Err Fault.ReadFault → Rose (F.faults files.old) (F.faults files.new) }
-    ensures missing { IfMissing result (λ n. Rose (F.misses files.old n) (F.misses files.new n)) }
-    ensures opened { (world : World) → IsTold (F.texts files.old) world → IsLexing world.lexed → Allows result world.broken (length known.new.texts.items)
+    ensures outside { Counts result (F.seen files.old) (F.seen files.new) }
+    ensures opened { (world : World) → IsTold (F.seen files.old).texts world → IsLexing world.lexed → Allows result world.broken (length known.new.texts.items)
         → OpenedAs result known.new (opened world (known_of known.old) name.now) }
     ensures within { OnOk result (known.new.tokens ≤ max_tokens) }
     ensures numbers { OnOk result (length known.old.texts.items ≤ length known.new.texts.items) }

@@ -6,11 +6,11 @@ use Rattle.mote_bus.specs.Mote.{mote_after, events}
 use Rattle.mote_text.specs.TraceText.{trace_lines}
 use Rattle.mote_run.specs.Rows.{happen}
 use Rattle.mote_run.specs.Held.{Follows, image_in, board_in}
-use Rattle.mote_run.specs.Writes.{Writes}
+use Rattle.nm_base.specs.Outside.{Writes}
 use Rattle.mote_run.specs.RunText.{slot_events}
 use Rattle.mote_run.proofs.Seen.{held_of}
 use Rattle.mote_run.proofs.SlotBySlot.{stopped, begun, turn}
-use Rattle.mote_run.proofs.Writing.{writes_nothing, goes_on, stops}
+use Rattle.nm_base.proofs.Writing.{writes_nothing, goes_on, stops}
 use Rattle.mote_run.proofs.mote.MoteOf.run_slots.Goals as goal
 
 pub loop-slot-init : goal.loop-slot-init
@@ -19,7 +19,7 @@ loop-slot-init g c =
     let ran = c.requires.fresh.ran in
     record {
       follows = c.requires.fresh;
-      wrote = writes_nothing (tt {0}) _ _;
+      wrote = writes_nothing (tt {0}) _;
       rest = record { order = c.requires.order; later = λ t le o. refl };
       slots = omega arith;
       ran = omega arith;
@@ -41,7 +41,7 @@ returns-then-self-clause-wrote g c =
     let s = c.loop-slot.slot in
     let f = c.loop-slot.invariant.follows in
     let end = stopped (image_in m) (board_in m) rows s c.args.budget (omega (arith, c.loop-slot-test.true)) (sym f.stopped ∙ c.if-self.true) in
-    subst (λ (l : List ℕ). Writes {A = Unit {0}} (Ok (tt {0})) (g.S.Sink.taken c.args.out.now) (g.S.Sink.taken c.loop-slot.out) (g.S.Sink.faults c.args.out.now) (g.S.Sink.faults c.loop-slot.out) l)
+    subst (λ (l : List ℕ). Writes {A = Unit {0}} (Ok (tt {0})) (g.S.Sink.seen c.args.out.now) (g.S.Sink.seen c.loop-slot.out) l)
     (ap trace_lines (sym end.events)) c.loop-slot.invariant.wrote
 
 pub returns-in_err-take_slot-clause-wrote : goal.returns-in_err-take_slot-clause-wrote
@@ -52,7 +52,7 @@ returns-in_err-take_slot-clause-wrote g c =
     let before = mote_after (image_in m) (board_in m) rows s in
     let t = turn (image_in m) (board_in m) rows c.loop-slot.rest.now c.split_at.result.0.now c.split_at.result.1.now s c.count_due.result c.loop-slot.invariant.rest c.count_due.ensures.count c.split_at.ensures.front c.split_at.ensures.back in
     let all = begun (image_in m) (board_in m) rows (s + 1) c.args.budget (omega (arith, c.loop-slot-test.true)) in
-    stops (tt {0}) _ c.from_residual.result _ _ _ _ _ _ (trace_lines (events (image_in m) (board_in m) rows s)) (trace_lines (slot_events s (happen c.split_at.result.0.now) before)) all.rest _ c.from_residual.ensures.0
+    stops (tt {0}) _ c.from_residual.result _ _ _ (trace_lines (events (image_in m) (board_in m) rows s)) (trace_lines (slot_events s (happen c.split_at.result.0.now) before)) all.rest _ c.from_residual.ensures.0
     (all.lines ∙ ap (λ (l : List ℕ). l ++ all.rest) t.next.lines)
     c.loop-slot.invariant.wrote (c.in_err-take_slot.ensures.wrote before c.loop-slot.invariant.follows)
 
@@ -65,7 +65,7 @@ loop-slot-preserved g c =
     let t = turn (image_in m) (board_in m) rows c.loop-slot.rest.now c.split_at.result.0.now c.split_at.result.1.now s c.count_due.result c.loop-slot.invariant.rest c.count_due.ensures.count c.split_at.ensures.front c.split_at.ensures.back in
     record {
       follows = subst (λ (x : Running Outside). Follows (held_of g.D.Device.state c.take_slot.new.self) x) t.next.after (c.in_ok-take_slot.ensures.follows before c.loop-slot.invariant.follows);
-      wrote = goes_on (tt {0}) _ _ _ _ _ _ _ (trace_lines (events (image_in m) (board_in m) rows s)) _ _ t.next.lines
+      wrote = goes_on (tt {0}) _ _ _ _ (trace_lines (events (image_in m) (board_in m) rows s)) _ _ t.next.lines
           c.loop-slot.invariant.wrote (c.in_ok-take_slot.ensures.wrote before c.loop-slot.invariant.follows);
       rest = t.rest;
       slots = omega (arith, c.in_ok-take_slot.ensures.slots, c.loop-slot.invariant.slots);
@@ -84,5 +84,5 @@ returns-clause-wrote g c =
     let m = held_of g.D.Device.state c.args.self.now in
     let rows = c.args.schedule.now in
     let same : c.loop-slot.slot ≡ c.args.budget = omega (arith, c.loop-slot-test.false, c.loop-slot.auto.slot-end) in
-    subst (λ n. Writes {A = Unit {0}} (Ok (tt {0})) (g.S.Sink.taken c.args.out.now) (g.S.Sink.taken c.loop-slot.out) (g.S.Sink.faults c.args.out.now) (g.S.Sink.faults c.loop-slot.out) (trace_lines (events (image_in m) (board_in m) rows n)))
+    subst (λ n. Writes {A = Unit {0}} (Ok (tt {0})) (g.S.Sink.seen c.args.out.now) (g.S.Sink.seen c.loop-slot.out) (trace_lines (events (image_in m) (board_in m) rows n)))
     same c.loop-slot.invariant.wrote

@@ -11,11 +11,11 @@ abbrev pub invariant-loop : goal.invariant-loop
 invariant-loop g l = record {
   within : l.self.context.known.tokens ≤ max_tokens;
   depth : length l.self.outer.items < max_open;
-  same : g.F.Files.texts l.files ≡ g.F.Files.texts l.fn.files;
-  faults : g.F.Files.faults l.fn.files ≤ g.F.Files.faults l.files;
-  misses : (n : Name) → g.F.Files.misses l.fn.files n ≤ g.F.Files.misses l.files n;
+  same : (g.F.Files.seen l.files).texts ≡ (g.F.Files.seen l.fn.files).texts;
+  faults : (g.F.Files.seen l.fn.files).faults ≤ (g.F.Files.seen l.files).faults;
+  misses : (n : Name) → (g.F.Files.seen l.fn.files).misses n ≤ (g.F.Files.seen l.files).misses n;
   numbers : length l.fn.self.context.known.texts.items ≤ length l.self.context.known.texts.items;
-  goes : (world : World) → IsTold (g.F.Files.texts l.fn.files) world → IsLexing world.lexed → BreaksFrom world.broken (length l.self.context.known.texts.items) → Goes world l.fn.self l.self;
+  goes : (world : World) → IsTold (g.F.Files.seen l.fn.files).texts world → IsLexing world.lexed → BreaksFrom world.broken (length l.self.context.known.texts.items) → Goes world l.fn.self l.self;
 }
 
 abbrev pub decreases-loop : goal.decreases-loop
