@@ -3,7 +3,9 @@
 
 ghost use Rattle.std.specs.Prelude.{◌≡◌, map, string_bytes, IfOk, OnErr};
 ghost use Rattle.std.specs.Process.{exit_status};
-ghost use Rattle.nescmote.specs.Answered.{IsAnswer, IsAnswered, seen, words_or_none};
+ghost use Rattle.mote_bus.specs.Slots.{board_of};
+ghost use Rattle.nm_driver.specs.Output.{IsAnswer};
+ghost use Rattle.nescmote.specs.Answered.{IsAnswered, new_devices, words_or_none};
 
 use mote_devices::{Device, Leds, Radio, Sensor, Serial, Timer};
 use nm_base::{Files, FolderFiles, NoMemory, Sink, StdSink};
@@ -25,9 +27,9 @@ fn answer_to<F: Files, S: Sink>(
     files: &mut F,
     out: &mut S,
 ) -> Result<Status, NoMemory>
-    ensures ok { IfOk result (IsAnswer (seen (F.texts files.old) (F.faults files.old) (F.misses files.old) (S.faults out.old) (S.taken out.old))
-        (seen (F.texts files.new) (F.faults files.new) (F.misses files.new) (S.faults out.new) (S.taken out.new)) (map string_bytes words.now)) }
-    ensures err { OnErr result (S.taken out.new ≡ S.taken out.old) }
+    ensures ok { IfOk result (λ status. IsAnswer (map string_bytes words.now) (board_of new_devices) status (F.seen files.old) (F.seen files.new) (S.seen out.old) (S.seen out.new)) }
+    ensures files { OnErr result (F.seen files.new ≡ F.seen files.old) }
+    ensures out { OnErr result (S.seen out.new ≡ S.seen out.old) }
 {
     let leds: Box<dyn Device> = Box::new(alloc, Leds::new())?;
     let timer: Box<dyn Device> = Box::new(alloc, Timer::new())?;
@@ -45,9 +47,7 @@ fn answer<F: Files, S: Sink>(
     files: &mut F,
     out: &mut S,
 ) -> Status
-    ensures { IsAnswer (seen (F.texts files.old) (F.faults files.old) (F.misses files.old) (S.faults out.old) (S.taken out.old))
-        (seen (F.texts files.new) (F.faults files.new) (F.misses files.new) (S.faults out.new) (S.taken out.new))
-        (words_or_none (λ ws. map string_bytes ws.items) words) result }
+    ensures { IsAnswer (words_or_none (λ ws. map string_bytes ws.items) words) (board_of new_devices) result (F.seen files.old) (F.seen files.new) (S.seen out.old) (S.seen out.new) }
 {
     match words {
         Ok(words) => answer_to(alloc, &words, files, out).unwrap_or(Status::NoMemory),
@@ -63,9 +63,7 @@ fn run<F: Files, S: Sink>(
     files: &mut F,
     out: &mut S,
 ) -> ExitCode
-    ensures { IsAnswered (seen (F.texts files.old) (F.faults files.old) (F.misses files.old) (S.faults out.old) (S.taken out.old))
-        (seen (F.texts files.new) (F.faults files.new) (F.misses files.new) (S.faults out.new) (S.taken out.new))
-        (words_or_none (λ ws. map string_bytes ws.items) words) (exit_status result) }
+    ensures { IsAnswered (words_or_none (λ ws. map string_bytes ws.items) words) (F.seen files.old) (F.seen files.new) (S.seen out.old) (S.seen out.new) (exit_status result) }
 {
     let status = answer(alloc, words, files, out);
     ExitCode::from(status.code())

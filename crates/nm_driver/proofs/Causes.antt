@@ -8,7 +8,7 @@ use Rattle.nm_base.specs.declared.fault.Fault.{Fault}
 use Rattle.nm_base.specs.declared.fault.Fault.TheVariants as fault
 use Rattle.nm_base.specs.declared.limit.Limit.{Limit as LimitOf}
 use Rattle.nesc_preproc.specs.Sources.{Known, nothing_known}
-use Rattle.nesc_preproc.specs.Expands.{IfMissing as IfFaultMissing, Told}
+use Rattle.nesc_preproc.specs.Expands.{Told}
 use Rattle.nesc_preproc.specs.OneExpansion.{OneExpansion, IsAnswer}
 use Rattle.mote_devices.specs.declared.state.BoardState.{BoardState}
 use Rattle.mote_devices.specs.declared.shown.Due.{Due}
@@ -25,8 +25,8 @@ use Rattle.nm_driver.specs.declared.status.Status.TheVariants.{Done, Refused, Us
 use Rattle.nm_driver.specs.Form.{HasForm}
 use Rattle.nm_driver.specs.Lines.{answer_line}
 use Rattle.nm_driver.specs.NamedFiles.{FileStops, HasImage, HasRows, HasSubject, ImageStops, IsRead, IsSource, IsStopped, IsTooLarge, ScheduleStops, SubjectStops, source_file, status_of}
-use Rattle.nm_driver.specs.Output.{HasCause, HasText, IfMissing, IsDone, IsDue, Prints, Stops}
-use Rattle.nm_driver.specs.Prepared.{IfSays, IsLined, IsNoMemory, SaysOf, SaysOfSubject, fault_file}
+use Rattle.nm_driver.specs.Output.{HasCause, HasText, IsDone, IsDue, Prints, Stops}
+use Rattle.nm_driver.specs.Prepared.{IfSays, IsLined, IsNoMemory, SaysOf, SaysOfSubject, fault_file, line_of}
 use Rattle.nm_driver.specs.Tokens.{spellings}
 use Rattle.nm_driver.specs.Words.{Asked, AreWords}
 use Rattle.nm_driver.proofs.Requests.{one_request}
@@ -45,24 +45,6 @@ if_says_three stop.NoMemory f h k l = tt
 pub passed : {A : Type 0} (P : Stop → Type 0) (r : Result A Stop) (e : Stop) → IsErrAnd r (λ x. x ≡ e) → P e → IfErr r P
 passed P (Err x) e is h = subst P (sym is) h
 passed P (Ok x) e is h = absurd is
-
--- ---- the answer to a fault
-
-pub read_fault_of : (e : Fault) → status_of e ≡ ReadFault → e ≡ fault.ReadFault
-read_fault_of (fault.Refused r) h = absurd (let k : Refused r ≡ ReadFault = h in cc)
-read_fault_of (fault.Missing n) h = absurd (let k : Missing n ≡ ReadFault = h in cc)
-read_fault_of fault.ReadFault h = refl
-read_fault_of (fault.Limit l) h = absurd (let k : Limit l ≡ ReadFault = h in cc)
-read_fault_of (fault.TooLarge room n) h = absurd (let k : TooLarge room n ≡ ReadFault = h in cc)
-read_fault_of fault.NoMemory h = absurd (let k : NoMemory ≡ ReadFault = h in cc)
-
-pub missing_of : (A : Type 0) (P : List ℕ → Type 0) (e : Fault) → (let r : Result A Fault = Err e in IfFaultMissing r P) → IfMissing (status_of e) P
-missing_of A P (fault.Refused r) h = tt
-missing_of A P (fault.Missing n) h = h
-missing_of A P fault.ReadFault h = tt
-missing_of A P (fault.Limit l) h = tt
-missing_of A P (fault.TooLarge room n) h = tt
-missing_of A P fault.NoMemory h = tt
 
 -- ---- answers that are due
 
@@ -103,19 +85,19 @@ module _ (told : Option Told) (words : List (List ℕ)) (asked : Asked) (are : A
   stops_at files status h = record { asked = asked; words_are = are; cause = inl h }
 
   -- an answer about what is run
-  pub subject_due : (mode : Mode) → asked.mode ≡ mode → (answer : Answer) → SaysOfSubject told mode asked.subject answer → IsDue told words board answer.status answer.text.items
+  pub subject_due : (mode : Mode) → asked.mode ≡ mode → (answer : Answer) → SaysOfSubject told mode asked.subject answer → IsDue told words board answer.status (line_of answer)
   subject_due Run runs answer says =
-      subst (λ s. IsDue told words board s answer.text.items) (sym says.is_status)
-      (fault_due says.cause says.known answer.text.items runs says.found says.is_text says.source
+      subst (λ s. IsDue told words board s (line_of answer)) (sym says.is_status)
+      (fault_due says.cause says.known (line_of answer) runs says.found says.is_line says.source
       (λ files h. stops_at files (status_of says.cause) (subst (λ m. SubjectStops files m asked.subject (status_of says.cause)) (sym runs) (record { fault = says.cause; known = says.known; stopped = says.source files h; answer = refl }))))
   subject_due Mote runs answer says =
-      lined_due answer.status answer.text.items says.lined says.text
+      lined_due answer.status (line_of answer) says.lined says.line
       (λ files h. stops_at files answer.status (subst (λ m. SubjectStops files m asked.subject answer.status) (sym runs) (says.cause files h)))
 
   -- an answer about the schedule of a good subject
-  pub schedule_due : ((files : Told) → told ≡ Some files → HasSubject files asked.mode asked.subject) → (answer : Answer) → SaysOf told (λ files. ScheduleStops files asked.schedule) answer → IsDue told words board answer.status answer.text.items
+  pub schedule_due : ((files : Told) → told ≡ Some files → HasSubject files asked.mode asked.subject) → (answer : Answer) → SaysOf told (λ files. ScheduleStops files asked.schedule) answer → IsDue told words board answer.status (line_of answer)
   schedule_due good answer says =
-      lined_due answer.status answer.text.items says.lined says.text
+      lined_due answer.status (line_of answer) says.lined says.line
       (λ files h. record { asked = asked; words_are = are; cause = inr (good files h, says.cause files h) })
 
 -- what prints has its subject
@@ -215,7 +197,7 @@ module _ (one : OneExpansion) (told : Told) (app : List ℕ) (writes : List Cons
 
 module _ (one : OneExpansion) (told : Told) (words : List (List ℕ)) (good : IsDone told words) where
   not_subject : (mode : Mode) (name : List ℕ) (s : Status) → HasSubject told mode name → SubjectStops told mode name s → (s ≡ ReadFault) ⊎ (s ≡ NoMemory)
-  not_subject Run name s has h = subst (λ x. (x ≡ ReadFault) ⊎ (x ≡ NoMemory)) (sym h.answer) (not_source one told name has.0 has.1 h.fault h.known h.stopped)
+  not_subject Run name s has h = subst (λ x. (x ≡ ReadFault) ⊎ (x ≡ NoMemory)) (sym h.answer) (not_source one told name has.1.writes has.1.source h.fault h.known h.stopped)
   not_subject Mote name s has h = inl (not_image told name has.0 s has.1 h)
 
   only_faults : (s : Status) → Stops told words s → (s ≡ ReadFault) ⊎ (s ≡ NoMemory)

@@ -1,4 +1,5 @@
 pub mod Causes
+pub mod Headline
 pub mod Numerals
 pub mod Ports
 pub mod Reading

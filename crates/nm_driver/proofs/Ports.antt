@@ -13,7 +13,7 @@ use Rattle.core_meaning.specs.ConstantWrites.{IsWrite, WritesConstants}
 use Rattle.core_meaning.proofs.BootActions.{writes_constants, small_writes}
 use Rattle.nm_driver.specs.declared.form.Constant.{Constant}
 use Rattle.nm_driver.specs.Form.{IsConstant, constant_of, port_write_of}
-use Rattle.nm_driver.specs.Output.{wired}
+use Rattle.nm_driver.specs.NamedFiles.{wired}
 
 -- what the image is to write is good
 pub good_ports : (ws : List Constant) → AllByRecursion IsConstant ws → AllByRecursion IsWrite (map port_write_of ws)

@@ -8,3 +8,4 @@ pub mod NamedFiles
 pub mod MeetsProgram
 pub mod Output
 pub mod Prepared
+pub mod Headline

@@ -1,5 +1,6 @@
 -- An image that does what a program allows.
 use Rattle.std.specs.Prelude.{◌≡◌, ◌≤◌, ℕ, ◌+◌, List}
+use Rattle.nm_base.specs.declared.memory_map.TheConstants.{RAM_BYTES, RAM_END}
 use Rattle.mote_devices.specs.declared.state.BoardState.{BoardState}
 use Rattle.mote_devices.specs.declared.shown.Due.{Due}
 use Rattle.nesc_core.specs.Plain.{Program}
@@ -14,9 +15,9 @@ pub record MeetsProgram (program : Program) (code vectors : List ℕ) (ram stack
   -- what a mote with the image does on every board, whatever comes in whichever slot, is what the program allows ..
   pub allowed : (b : BoardState) (rows : List Due) (n : ℕ) → Allowed (source_of program) (pace_of_program program) b (mote (image_map code vectors) b rows) n
   -- .. within its stack
-  pub bounded : (b : BoardState) (rows : List Due) (n : ℕ) → 0x3900 ≤ (mote (image_map code vectors) b rows n).least + stack
+  pub bounded : (b : BoardState) (rows : List Due) (n : ℕ) → RAM_END ≤ (mote (image_map code vectors) b rows n).least + stack
   pub image : IsImage code vectors
   -- these programs have no data
   pub no_data : ram ≡ 0
   -- data and stack fit the memory
-  pub fits : ram + stack ≤ 10240
+  pub fits : ram + stack ≤ RAM_BYTES

@@ -1,5 +1,6 @@
 -- What the files that the words name give, and why one of them stops the call (own).
-use Rattle.std.specs.Prelude.{◌≡◌, ◌<◌, ◌≤◌, ◌⊎◌, ℕ, ◌+◌, List, ◌++◌, Some, None, Result, Ok, Err, length, codes}
+use Rattle.std.specs.Prelude.{◌≡◌, ◌<◌, ◌≤◌, ◌⊎◌, ℕ, ◌+◌, List, ◌++◌, Some, None, Result, Ok, Err, length, map, codes}
+use Rattle.nm_base.specs.declared.limit.TheConstants.{MAX_FILE, MAX_SCHEDULE}
 use Rattle.nm_base.specs.declared.limit.Limit.{Limit as LimitOf}
 use Rattle.nm_base.specs.declared.limit.Which.TheVariants as which
 use Rattle.nm_base.specs.declared.refusal.Left.TheVariants.{Later}
@@ -8,13 +9,15 @@ use Rattle.nm_base.specs.declared.refusal.Refusal.TheVariants.{LeftOut}
 use Rattle.nm_base.specs.declared.fault.Fault.{Fault}
 use Rattle.nm_base.specs.declared.fault.Fault.TheVariants as fault
 use Rattle.nm_base.specs.declared.token.Token.{Token}
-use Rattle.nesc_preproc.specs.Sources.{Known, nothing_known, max_file}
+use Rattle.nesc_preproc.specs.Sources.{Known, nothing_known}
 use Rattle.nesc_preproc.specs.Expands.{Told, Expands}
 use Rattle.mote_devices.specs.declared.shown.Due.{Due}
 use Rattle.mote_text.specs.ImageLines.{image_of}
 use Rattle.mote_text.specs.ScheduleText.{schedule_of}
 use Rattle.nm_driver.specs.Tokens.{spellings}
-use Rattle.nm_driver.specs.Form.{HasForm}
+use Rattle.nesc_core.specs.Plain.{Program}
+use Rattle.core_meaning.specs.BootBody.{constant_writes_program}
+use Rattle.nm_driver.specs.Form.{HasForm, constant_of}
 use Rattle.nm_driver.specs.declared.form.Constant.{Constant}
 use Rattle.nm_driver.specs.declared.words.Mode.{Mode}
 use Rattle.nm_driver.specs.declared.words.Mode.TheVariants.{Run, Mote}
@@ -27,13 +30,13 @@ use Rattle.nm_driver.specs.declared.status.Status.TheVariants.{Missing, ReadFaul
 -- it is there, and not too large
 pub record IsRead (told : Told) (name text : List ℕ) : Type 0 where
   pub there : told name ≡ Some text
-  pub small : length text ≤ max_file
+  pub small : length text ≤ MAX_FILE
 
 pub record IsTooLarge (told : Told) (name : List ℕ) (limit : LimitOf) : Type 0 where
   pub text : List ℕ
   pub there : told name ≡ Some text
-  pub large : max_file < length text
-  pub this : limit ≡ record { which = which.File; have = max_file + 1 }
+  pub large : MAX_FILE < length text
+  pub this : limit ≡ record { which = which.File; have = MAX_FILE + 1 }
 
 -- it is not there, or it is too large; the cause of a read fault is its count
 abbrev pub FileStops : Told → List ℕ → Status → Type 0
@@ -44,14 +47,11 @@ FileStops told name _ = ⊥
 
 -- ---- a schedule
 
-abbrev pub max_rows : ℕ
-max_rows = 100000
-
 pub record HasRows (told : Told) (name : List ℕ) (rows : List Due) : Type 0 where
   pub text : List ℕ
   pub read : IsRead told name text
   pub rows_are : schedule_of text ≡ Ok rows
-  pub few : length rows ≤ max_rows
+  pub few : length rows ≤ MAX_SCHEDULE
 
 -- as for every text; a file of at most 262,144 bytes has fewer, since a row takes 13 bytes or more
 pub record HasManyRows (told : Told) (name : List ℕ) (limit : LimitOf) : Type 0 where
@@ -59,8 +59,8 @@ pub record HasManyRows (told : Told) (name : List ℕ) (limit : LimitOf) : Type 
   pub read : IsRead told name text
   pub rows : List Due
   pub rows_are : schedule_of text ≡ Ok rows
-  pub many : max_rows < length rows
-  pub this : limit ≡ record { which = which.Schedule; have = max_rows + 1 }
+  pub many : MAX_SCHEDULE < length rows
+  pub this : limit ≡ record { which = which.Schedule; have = MAX_SCHEDULE + 1 }
 
 -- a line is the first one that is refused
 pub record HasBadRow (told : Told) (name : List ℕ) (line : ℕ) : Type 0 where
@@ -105,6 +105,16 @@ pub record IsSource (told : Told) (app : List ℕ) (writes : List Constant) : Ty
   pub read : ReadsTo told app (Ok tokens) known
   pub form : HasForm app (spellings tokens) writes
 
+-- the wired program of a module of this name that makes these writes
+abbrev pub wired : List ℕ → List Constant → Program
+wired app writes = constant_writes_program app (map constant_of writes)
+
+-- the application's files have this wired program
+pub record HasProgram (told : Told) (app : List ℕ) (program : Program) : Type 0 where
+  pub writes : List Constant
+  pub source : IsSource told app writes
+  pub is_wired : program ≡ wired app writes
+
 -- the application's file is read, and has not the form
 pub record IsFormless (told : Told) (app : List ℕ) (known : Known) : Type 0 where
   pub tokens : List Token
@@ -115,7 +125,7 @@ pub record IsFormless (told : Told) (app : List ℕ) (known : Known) : Type 0 wh
 abbrev pub later : Refusal
 later = LeftOut (record { file = 0; line = 1; col = 1 }) Later
 
--- why there are no writes of the application's file
+-- why there is no wired program of the application's files
 abbrev pub IsStopped : Told → List ℕ → Fault → Known → Type 0
 IsStopped told app e known = ReadsTo told app (Err e) known ⊎ ((e ≡ fault.Refused later) × IsFormless told app known)
 
@@ -136,9 +146,9 @@ pub record SourceStops (told : Told) (app : List ℕ) (status : Status) : Type 0
 
 -- ---- what is run
 
--- an application with its writes, or an image
+-- an application with its wired program, or an image
 abbrev pub HasSubject : Told → Mode → List ℕ → Type 0
-HasSubject told Run app = (writes : List Constant) × IsSource told app writes
+HasSubject told Run app = (program : Program) × HasProgram told app program
 HasSubject told Mote name = (image : ℕ → ℕ) × HasImage told name image
 
 abbrev pub SubjectStops : Told → Mode → List ℕ → Status → Type 0

@@ -1,23 +1,20 @@
 -- What the top call answers and writes (own).
-use Rattle.std.specs.Prelude.{◌≡◌, ◌⊎◌, ℕ, List, [], Option, Some, map, unwrap_or, slice_get}
+use Rattle.std.specs.Prelude.{◌≡◌, ◌⊎◌, ℕ, List, [], Option, Some, unwrap_or, slice_get}
 use Rattle.nm_base.specs.declared.refusal.Refusal.{Refusal}
 use Rattle.nm_base.specs.declared.fault.Fault.TheVariants as fault
-use Rattle.nm_base.specs.Outside.{appended, AppendsPart}
+use Rattle.nm_base.specs.Outside.{AppendsPart, FilesSeen, Rose, SinkSeen, appended}
 use Rattle.nm_base.specs.Words.{refusal_pos}
 use Rattle.nesc_preproc.specs.Sources.{Known}
 use Rattle.nesc_preproc.specs.Expands.{Told}
 use Rattle.mote_devices.specs.declared.state.BoardState.{BoardState}
 use Rattle.mote_devices.specs.declared.shown.Due.{Due}
 use Rattle.nesc_core.specs.Plain.{Program}
-use Rattle.core_meaning.specs.BootBody.{constant_writes_program}
 use Rattle.mote_run.specs.RunText.{mote_text}
-use Rattle.nm_driver.specs.Form.{constant_of}
 use Rattle.nm_driver.specs.Words.{Asked, AreWords, AreInUse}
 use Rattle.nm_driver.specs.Lines.{answer_line}
 use Rattle.nm_driver.specs.RunText.{run_text}
 use Rattle.nm_driver.specs.MeetsProgram.{MeetsProgram}
-use Rattle.nm_driver.specs.NamedFiles.{HasImage, HasRows, HasSubject, IsSource, IsStopped, ScheduleStops, SubjectStops, source_file}
-use Rattle.nm_driver.specs.declared.form.Constant.{Constant}
+use Rattle.nm_driver.specs.NamedFiles.{HasImage, HasProgram, HasRows, HasSubject, IsStopped, ScheduleStops, SubjectStops, source_file}
 use Rattle.nm_driver.specs.declared.words.Mode.{Mode}
 use Rattle.nm_driver.specs.declared.words.Mode.TheVariants.{Run, Mote}
 use Rattle.nm_driver.specs.declared.status.Status.{Status}
@@ -61,10 +58,6 @@ IsUsageOrLess _ = ⊥
 
 -- ---- texts
 
--- the wired program of a module of this name that makes these writes
-abbrev pub wired : List ℕ → List Constant → Program
-wired app writes = constant_writes_program app (map constant_of writes)
-
 -- the text is that of an image that does what the program allows, and of its own run on a board, with these rows, in so many slots
 pub record IsRunText (program : Program) (board : BoardState) (rows : List Due) (budget : ℕ) (text : List ℕ) : Type 0 where
   pub code : List ℕ
@@ -77,7 +70,7 @@ pub record IsRunText (program : Program) (board : BoardState) (rows : List Due) 
 -- a run of an application, or of an image, prints this; the files have them, where they are told
 abbrev pub Prints : Option Told → Mode → List ℕ → BoardState → List Due → ℕ → List ℕ → Type 0
 Prints told Run app board rows budget text =
-    (writes : List Constant) × IsRunText (wired app writes) board rows budget text × ((files : Told) → told ≡ Some files → IsSource files app writes)
+    (program : Program) × IsRunText program board rows budget text × ((files : Told) → told ≡ Some files → HasProgram files app program)
 Prints told Mote name board rows budget text =
     (image : ℕ → ℕ) × (text ≡ mote_text image board rows budget) × ((files : Told) → told ≡ Some files → HasImage files name image)
 
@@ -122,3 +115,23 @@ abbrev pub Wrote : Option Told → List (List ℕ) → BoardState → Status →
 Wrote told words board NoMemory old new = new ≡ old
 Wrote told words board WriteFault old new = (status : Status) × (text : List ℕ) × IsDue told words board status text × AppendsPart old new text
 Wrote told words board status old new = (text : List ℕ) × HasText told words board status text × (new ≡ appended old text)
+
+-- ---- the call
+
+-- The answer to words on a board, by what is seen of files and sink before and after the call
+pub record IsAnswer (words : List (List ℕ)) (board : BoardState) (status : Status) (files files' : FilesSeen) (out out' : SinkSeen) : Type 0 where
+  pub same : files'.texts ≡ files.texts
+  -- a fault of the outside comes only where its count rose; a file is missing only where a read said so
+  pub read_fault : status ≡ ReadFault → Rose files.faults files'.faults
+  pub write_fault : status ≡ WriteFault → Rose out.faults out'.faults
+  pub missing : IfMissing status (λ name. Rose (files.misses name) (files'.misses name))
+  -- Usage comes exactly where the words are not in use
+  pub usage : status ≡ Usage → AreInUse words → ⊥
+  pub not_usage : (AreInUse words → ⊥) → IsUsageOrLess status
+  -- each other answer has its cause in the words and in the files, where these are told
+  pub cause : (told : Told) → files.texts ≡ Some told → HasCause told words status
+  -- where words and files are good and no count rises, it is done, or memory was refused
+  pub complete : (told : Told) → files.texts ≡ Some told → IsDone told words
+      → (status ≡ Done) ⊎ ((status ≡ NoMemory) ⊎ (Rose files.faults files'.faults ⊎ Rose out.faults out'.faults))
+  -- what was written: the text of the answer, of which a fault leaves a beginning
+  pub output : Wrote files.texts words board status out.taken out'.taken

@@ -1,17 +1,23 @@
 -- What is found before anything is written (own).
-use Rattle.std.specs.Prelude.{◌≡◌, ◌⊎◌, ℕ, List, [], ◌++◌, Option, Some, string_bytes, unwrap_or}
+use Rattle.std.specs.Prelude.{◌≡◌, ◌≤◌, ◌⊎◌, ℕ, List, [], ◌++◌, Option, Some, None, Result, IfErr, codes, length, map, string_bytes, unwrap_or}
+use Rattle.std.specs.List.{AllByRecursion}
 use Rattle.nm_base.specs.declared.fault.Fault.{Fault}
 use Rattle.nm_base.specs.declared.fault.Fault.TheVariants as fault
-use Rattle.nm_base.specs.Outside.{Rose, appended, AppendsPart}
+use Rattle.nm_base.specs.Outside.{AppendsPart, FilesSeen, IsReadBy, Rose, SinkSeen, appended}
 use Rattle.nesc_preproc.specs.Sources.{Known, nothing_known}
 use Rattle.nesc_preproc.specs.Expands.{Told}
 use Rattle.mote_devices.specs.declared.state.BoardState.{BoardState}
 use Rattle.mote_devices.specs.declared.shown.Due.{Due}
+use Rattle.nesc_core.specs.View.{program_of}
 use Rattle.msp_isa.specs.Image.{bytes_map}
+use Rattle.mote_text.specs.ImageText.{image_text}
 use Rattle.mote_run.specs.RunText.{mote_text}
 use Rattle.nm_driver.specs.declared.answer.Answer.{Answer}
 use Rattle.nm_driver.specs.declared.answer.Stop.{Stop}
 use Rattle.nm_driver.specs.declared.answer.Stop.TheVariants as stop
+use Rattle.nm_driver.specs.declared.form.Constant.{Constant}
+use Rattle.nm_driver.specs.declared.source.Application.{Application}
+use Rattle.nm_driver.specs.declared.subject.Head.{Head}
 use Rattle.nm_driver.specs.declared.subject.Subject.{Subject}
 use Rattle.nm_driver.specs.declared.prepared.Prepared.{Prepared}
 use Rattle.mote_text.specs.declared.text_fault.TextFault.{TextFault}
@@ -21,14 +27,23 @@ use Rattle.nm_driver.specs.declared.words.Mode.TheVariants.{Run, Mote}
 use Rattle.nm_driver.specs.declared.status.Status.{Status}
 use Rattle.nm_driver.specs.declared.status.Status.TheVariants.{Done, Missing, ReadFault, WriteFault, BadSchedule, Limit, NoMemory, BadImage}
 use Rattle.nm_driver.specs.Lines.{answer_line}
-use Rattle.nm_driver.specs.NamedFiles.{ImageStops, IsStopped, source_file, status_of}
-use Rattle.nm_driver.specs.Output.{Prints, file_of}
+use Rattle.nm_driver.specs.Form.{IsConstant, port_write_of}
+use Rattle.nm_driver.specs.NamedFiles.{ImageStops, IsStopped, source_file, status_of, wired}
+use Rattle.nm_driver.specs.Output.{IfMissing, Prints, file_of}
 
 -- ---- answers
 
 abbrev pub IfSays : Stop → (Answer → Type 0) → Type 0
 IfSays (stop.Says answer) P = P answer
 IfSays stop.NoMemory P = Unit {0}
+
+-- the line of an answer
+abbrev pub line_of : Answer → List ℕ
+line_of answer = answer_line (unwrap_or answer.file []) answer.status
+
+-- files were read on the way to something, or to an answer
+abbrev pub Reads : {A : Type 0} → Result A Stop → FilesSeen → FilesSeen → Type 0
+Reads r old new = IsReadBy (λ P. IfErr r (λ s. IfSays s (λ a. a.status ≡ ReadFault → P))) (λ P. IfErr r (λ s. IfSays s (λ a. IfMissing a.status P))) old new
 
 -- an answer about a file that is no application's: its line names no place in a file
 abbrev pub IsLined : Status → Type 0
@@ -41,7 +56,7 @@ IsLined _ = ⊥
 
 pub record SaysOf (told : Option Told) (Stops : Told → Status → Type 0) (answer : Answer) : Type 0 where
   pub lined : IsLined answer.status
-  pub text : answer.text.items ≡ answer_line [] answer.status
+  pub line : line_of answer ≡ answer_line [] answer.status
   pub cause : (files : Told) → told ≡ Some files → Stops files answer.status
 
 -- the answer that a text's fault gives
@@ -71,13 +86,22 @@ abbrev pub IsNoMemory : Fault → Type 0
 IsNoMemory fault.NoMemory = Unit {0}
 IsNoMemory _ = ⊥
 
+-- an application whose program makes the writes of which its image is made
+pub record IsApplication (a : Application) : Type 0 where
+  pub app : List ℕ
+  pub constants : List Constant
+  pub few : length constants ≤ 200
+  pub good : AllByRecursion IsConstant constants
+  pub program : program_of a.program ≡ wired app constants
+  pub writes : a.writes.items ≡ map port_write_of constants
+
 -- an answer about the files of an application
 pub record SaysOfSource (told : Option Told) (app : List ℕ) (answer : Answer) : Type 0 where
   pub cause : Fault
   pub known : Known
   pub found : IsNoMemory cause → ⊥
   pub is_status : answer.status ≡ status_of cause
-  pub is_text : answer.text.items ≡ answer_line (fault_file known (source_file app) cause) (status_of cause)
+  pub is_line : line_of answer ≡ answer_line (fault_file known (source_file app) cause) (status_of cause)
   pub source : (files : Told) → told ≡ Some files → IsStopped files app cause known
 
 abbrev pub SaysOfSubject : Option Told → Mode → List ℕ → Answer → Type 0
@@ -86,24 +110,30 @@ SaysOfSubject told Mote name answer = SaysOf told (λ files. ImageStops files na
 
 -- ---- a run
 
+-- what is printed before the trace
+abbrev pub head_bytes : Option Head → List ℕ
+head_bytes None = []
+head_bytes (Some head) = (string_bytes head.sizes ++ image_text head.image.code.items head.image.vectors) ++ codes "trace\n"
+
 -- what a run of it prints, on any board
 abbrev pub PrintsAs : Option Told → Mode → List ℕ → Subject → Type 0
 PrintsAs told mode name subject =
-    (board : BoardState) (rows : List Due) (budget : ℕ) → Prints told mode name board rows budget (string_bytes subject.head ++ mote_text (bytes_map subject.image) board rows budget)
+    (board : BoardState) (rows : List Due) (budget : ℕ) → Prints told mode name board rows budget (head_bytes subject.head ++ mote_text (bytes_map subject.image) board rows budget)
 
 -- what a prepared run prints on a board
 abbrev pub text_on : BoardState → Prepared → List ℕ
-text_on board p = string_bytes p.subject.head ++ mote_text (bytes_map p.subject.image) board p.rows.items p.budget
+text_on board p = head_bytes p.subject.head ++ mote_text (bytes_map p.subject.image) board p.rows.items p.budget
 
--- a sink has taken an answer's text, or a part of it
-abbrev pub TakesAnswer : Status → Status → Option (List ℕ) → Option (List ℕ) → ℕ → ℕ → List ℕ → Type 0
-TakesAnswer answer result old new before now text =
-    ((result ≡ answer) × (new ≡ appended old text)) ⊎ ((result ≡ WriteFault) × AppendsPart old new text × Rose before now)
+-- a sink has taken an answer's text or a part of it, or there was no memory for it
+abbrev pub TakesAnswer : Status → Status → SinkSeen → SinkSeen → List ℕ → Type 0
+TakesAnswer answer result old new text =
+    ((result ≡ answer) × (new.taken ≡ appended old.taken text))
+    ⊎ (((result ≡ WriteFault) × AppendsPart old.taken new.taken text × Rose old.faults new.faults) ⊎ ((result ≡ NoMemory) × (new ≡ old)))
 
 -- the end of a call without a run
-abbrev pub Ends : Stop → Status → Option (List ℕ) → Option (List ℕ) → ℕ → ℕ → Type 0
-Ends (stop.Says answer) result old new before now = TakesAnswer answer.status result old new before now answer.text.items
-Ends stop.NoMemory result old new before now = (result ≡ NoMemory) × (new ≡ old)
+abbrev pub Ends : Stop → Status → SinkSeen → SinkSeen → Type 0
+Ends (stop.Says answer) result old new = TakesAnswer answer.status result old new (line_of answer)
+Ends stop.NoMemory result old new = (result ≡ NoMemory) × (new ≡ old)
 
 -- how a run may end
 abbrev pub IsRunStatus : Status → Type 0
@@ -113,8 +143,8 @@ IsRunStatus NoMemory = Unit {0}
 IsRunStatus _ = ⊥
 
 -- what a sink has taken of a run's text, by the answer
-abbrev pub Performs : Status → Option (List ℕ) → Option (List ℕ) → ℕ → ℕ → List ℕ → Type 0
-Performs Done old new before now text = new ≡ appended old text
-Performs WriteFault old new before now text = AppendsPart old new text × Rose before now
-Performs NoMemory old new before now text = new ≡ old
-Performs _ old new before now text = ⊥
+abbrev pub Performs : Status → SinkSeen → SinkSeen → List ℕ → Type 0
+Performs Done old new text = new.taken ≡ appended old.taken text
+Performs WriteFault old new text = AppendsPart old.taken new.taken text × Rose old.faults new.faults
+Performs NoMemory old new text = new ≡ old
+Performs _ old new text = ⊥

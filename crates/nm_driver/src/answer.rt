@@ -1,19 +1,19 @@
 //! Answers with their one line.
 
-ghost use Rattle.std.specs.Prelude.{◌≡◌, ◌++◌, ◌∷◌, [], IfOk, OnOk, codes, decimal};
-ghost use Rattle.nm_driver.specs.declared.answer.Stop.TheVariants.{NoMemory as StopNoMemory};
+ghost use Rattle.std.specs.Prelude.{◌≡◌, ◌++◌, ◌∷◌, [], None, IfOk, OnOk, codes, decimal};
+ghost use Rattle.nm_driver.specs.declared.answer.Stop.TheVariants.{NoMemory as StopNoMemory, Says as StopSays};
 ghost use Rattle.nm_driver.specs.Lines.{answer_line, detail, limit_text, number_text, place_text, refusal_text, room_text};
-ghost use Rattle.nm_driver.specs.Prepared.{IfSays};
+ghost use Rattle.nm_driver.specs.Prepared.{line_of};
 
 use crate::status::Status;
-use nm_base::{Limit, NoMemory, Refusal, Room};
+use nm_base::{Limit, Name, NoMemory, Refusal, Room};
 use std::alloc::{AllocError, Global};
 
-/// What is to be answered, and the text that goes with it.
+/// What is to be answered, and the file in which a refusal stands.
 #[derive(Drop)]
 pub(crate) struct Answer {
     pub status: Status,
-    pub text: Vec<u8>,
+    pub file: Option<Name>,
 }
 
 /// Why there is no run: an answer, or want of memory.
@@ -137,13 +137,20 @@ fn answer_line(alloc: Global, file: &[u8], status: &Status) -> Result<Vec<u8>, N
     }
 }
 
-/// The answer with this status. A refusal stands in `file`.
-pub(crate) fn says(alloc: Global, file: &[u8], status: Status) -> Stop
-    ensures status { IfSays result (λ a. a.status ≡ status) }
-    ensures text { IfSays result (λ a. a.text.items ≡ answer_line file.now status) }
+/// The line of an answer.
+pub(crate) fn line_of(alloc: Global, answer: &Answer) -> Result<Vec<u8>, NoMemory>
+    ensures { IfOk result (λ v. v.items ≡ line_of answer.now) }
 {
-    match answer_line(alloc, file, &status) {
-        Ok(text) => Stop::Says(Answer { status, text }),
-        Err(NoMemory) => Stop::NoMemory,
-    }
+    let file = match &answer.file {
+        Some(name) => name.as_bytes(),
+        None => b"",
+    };
+    answer_line(alloc, file, &answer.status)
+}
+
+/// The answer with this status, where no place in a file is told.
+pub(crate) fn says(status: Status) -> Stop
+    ensures { result ≡ StopSays (record { status = status; file = None }) }
+{
+    Stop::Says(Answer { status, file: None })
 }

@@ -5,6 +5,7 @@ mod answer;
 mod compile;
 mod files;
 mod form;
+mod laws;
 mod number;
 mod prepared;
 mod source;
@@ -15,6 +16,7 @@ mod top_call;
 mod wired;
 mod words;
 
+pub use laws::printed_image_runs_its_source;
 pub use status::Status;
 pub use top_call::tool;
 

@@ -1,11 +1,10 @@
 //! From the words of a command line to a run that is due, or to an answer.
 
-ghost use Rattle.std.specs.Prelude.{◌≡◌, map, string_bytes, IfOk, IfErr};
-ghost use Rattle.nm_base.specs.Outside.{Rose};
+ghost use Rattle.std.specs.Prelude.{map, string_bytes, IfOk, IfErr};
 ghost use Rattle.mote_devices.specs.declared.state.BoardState.{BoardState};
 ghost use Rattle.mote_run.specs.Rows.{DoNotFall};
-ghost use Rattle.nm_driver.specs.Output.{IfMissing, IsDue, IsOutput};
-ghost use Rattle.nm_driver.specs.Prepared.{IfSays, text_on};
+ghost use Rattle.nm_driver.specs.Output.{IsDue, IsOutput};
+ghost use Rattle.nm_driver.specs.Prepared.{IfSays, Reads, line_of, text_on};
 
 use crate::answer::{Stop, says};
 use crate::files::read_rows;
@@ -30,15 +29,13 @@ pub(crate) fn prepare<F: Files>(
     words: &[String],
     files: &mut F,
 ) -> Result<Prepared, Stop>
-    ensures same { F.texts files.new ≡ F.texts files.old }
+    ensures outside { Reads result (F.seen files.old) (F.seen files.new) }
     ensures order { IfOk result (λ p. DoNotFall p.rows.items) }
-    ensures output { IfOk result (λ p. (board : BoardState) → IsOutput (F.texts files.old) (map string_bytes words.now) board (text_on board p)) }
-    ensures says { IfErr result (λ s. IfSays s (λ a. (board : BoardState) → IsDue (F.texts files.old) (map string_bytes words.now) board a.status a.text.items)) }
-    ensures read_fault { IfErr result (λ s. IfSays s (λ a. a.status ≡ Status.ReadFault → Rose (F.faults files.old) (F.faults files.new))) }
-    ensures missing { IfErr result (λ s. IfSays s (λ a. IfMissing a.status (λ n. Rose (F.misses files.old n) (F.misses files.new n)))) }
+    ensures output { IfOk result (λ p. (board : BoardState) → IsOutput (F.seen files.old).texts (map string_bytes words.now) board (text_on board p)) }
+    ensures says { IfErr result (λ s. IfSays s (λ a. (board : BoardState) → IsDue (F.seen files.old).texts (map string_bytes words.now) board a.status (line_of a))) }
 {
     let Some(request) = request_of(words) else {
-        return Err(says(alloc, b"", Status::Usage));
+        return Err(says(Status::Usage));
     };
     let subject = subject_of(alloc, files, request.mode, request.subject)?;
     let rows = read_rows(alloc, files, request.schedule)?;

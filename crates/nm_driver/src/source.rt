@@ -1,21 +1,44 @@
 //! What an application's file gives.
 
-ghost use Rattle.std.specs.Prelude.{◌≡◌, ◌≤◌, ℕ, List, Some, IfOk, IfErr};
-ghost use Rattle.nm_base.specs.Outside.{Rose};
+ghost use Rattle.std.specs.Prelude.{◌≡◌, ℕ, List, [], Some, IfOk, IfErr, map, unwrap_or};
 ghost use Rattle.nesc_preproc.specs.Expands.{Told};
-ghost use Rattle.nm_driver.specs.Form.{HasForm};
+ghost use Rattle.nesc_core.specs.View.{program_of};
+ghost use Rattle.nm_driver.specs.Form.{HasForm, port_write_of};
 ghost use Rattle.nm_driver.specs.Lines.{answer_line};
-ghost use Rattle.nm_driver.specs.NamedFiles.{IsSource, later, status_of};
-ghost use Rattle.nm_driver.specs.Output.{IfMissing};
-ghost use Rattle.nm_driver.specs.Prepared.{IfSays, IsNoMemory, SaysOfSource, fault_file, known_in};
+ghost use Rattle.nm_driver.specs.NamedFiles.{HasProgram, IsSource, later, status_of};
+ghost use Rattle.nm_driver.specs.Prepared.{IfSays, IsApplication, IsNoMemory, Reads, SaysOfSource, fault_file, known_in, line_of};
 
-use crate::answer::{Stop, says};
+use crate::answer::{Answer, Stop};
 use crate::form::{Constant, writes_of};
 use crate::status::Status;
 use crate::tokens::spellings;
+use crate::wired::wired_program;
+use core_meaning::PortWrite;
+use nesc_core::Program;
 use nesc_preproc::{Reading, expand};
-use nm_base::{Fault, Files, Left, Name, Pos, Refusal};
+use nm_base::{Fault, Files, Left, Name, NoMemory, Pos, Refusal};
 use std::alloc::Global;
+
+/// An application as the front end gives it: its wired program, and the writes that make its image.
+#[derive(Drop)]
+pub(crate) struct Application {
+    pub program: Program,
+    pub writes: Vec<PortWrite>,
+}
+
+fn port_writes(alloc: Global, writes: &[Constant]) -> Result<Vec<PortWrite>, NoMemory>
+    ensures { IfOk result (λ v. v.items ≡ map port_write_of writes.now) }
+{
+    Ok(
+        writes
+            .iter()
+            .map(|write| PortWrite {
+                port: write.port,
+                value: write.value,
+            })
+            .collect(alloc)?,
+    )
+}
 
 // The form is not built yet.
 fn later() -> Fault
@@ -32,15 +55,15 @@ fn later() -> Fault
 }
 
 // The name of the file in which a refusal stands.
-fn fault_file<'a>(reading: &'a Reading, file: &'a Name, fault: &Fault) -> &'a [u8]
-    ensures { result.now ≡ fault_file (known_in reading.now) file.now fault.now }
+fn fault_file(reading: &Reading, file: Name, fault: &Fault) -> Result<Option<Name>, NoMemory>
+    ensures { IfOk result (λ name. unwrap_or name [] ≡ fault_file (known_in reading.now) file fault.now) }
 {
     let Fault::Refused(refusal) = fault else {
-        return b"";
+        return Ok(None);
     };
     match reading.name(refusal.pos().file) {
-        Some(name) => name.as_bytes(),
-        None => file.as_bytes(),
+        Some(name) => Ok(Some(name.clone()?)),
+        None => Ok(Some(file)),
     }
 }
 
@@ -59,44 +82,61 @@ fn status_of(fault: Fault) -> Status
 }
 
 // The answer to a fault. A refusal stands in `file`.
-fn says_fault(alloc: Global, file: &[u8], fault: Fault) -> Stop
+fn says_fault(file: Option<Name>, fault: Fault) -> Stop
     ensures status { IfSays result (λ a. a.status ≡ status_of fault) }
-    ensures text { IfSays result (λ a. a.text.items ≡ answer_line file.now (status_of fault)) }
+    ensures line { IfSays result (λ a. line_of a ≡ answer_line (unwrap_or file []) (status_of fault)) }
     ensures found { IfSays result (λ a. IsNoMemory fault → ⊥) }
 {
     if let Fault::NoMemory = fault {
         return Stop::NoMemory;
     }
-    says(alloc, file, status_of(fault))
+    Stop::Says(Answer {
+        status: status_of(fault),
+        file,
+    })
 }
 
-/// The writes of the application `app`, whose file is `app.nc`, where it has the form.
-pub(crate) fn read_source<F: Files>(
+// The writes of an application, whose file is `app.nc`, where it has the form.
+fn read_writes<F: Files>(
     alloc: Global,
     files: &mut F,
     app: &str,
 ) -> Result<Vec<Constant>, Stop>
-    ensures same { F.texts files.new ≡ F.texts files.old }
-    ensures faults { F.faults files.old ≤ F.faults files.new }
-    ensures misses { (n : List ℕ) → F.misses files.old n ≤ F.misses files.new n }
+    ensures outside { Reads result (F.seen files.old) (F.seen files.new) }
     ensures form { IfOk result (λ ws. (tokens : List (List ℕ)) × HasForm app.now tokens ws.items) }
-    ensures writes { IfOk result (λ ws. (told : Told) → F.texts files.old ≡ Some told → IsSource told app.now ws.items) }
-    ensures says { IfErr result (λ s. IfSays s (SaysOfSource (F.texts files.old) app.now)) }
-    ensures read_fault { IfErr result (λ s. IfSays s (λ a. a.status ≡ Status.ReadFault → Rose (F.faults files.old) (F.faults files.new))) }
-    ensures missing { IfErr result (λ s. IfSays s (λ a. IfMissing a.status (λ n. Rose (F.misses files.old n) (F.misses files.new n)))) }
+    ensures writes { IfOk result (λ ws. (told : Told) → (F.seen files.old).texts ≡ Some told → IsSource told app.now ws.items) }
+    ensures says { IfErr result (λ s. IfSays s (SaysOfSource (F.seen files.old).texts app.now)) }
 {
     let file = format!(in alloc; "{app}.nc")?;
     let file = Name::new(alloc, file.as_bytes())?;
     let mut reading = Reading::new(alloc);
     let tokens = match expand(alloc, files, &mut reading, &file) {
         Ok(tokens) => spellings(alloc, tokens)?,
-        Err(fault) => return Err(says_fault(alloc, fault_file(&reading, &file, &fault), fault)),
+        Err(fault) => return Err(says_fault(fault_file(&reading, file, &fault)?, fault)),
     };
     match writes_of(alloc, app, &tokens)? {
         Some(writes) => Ok(writes),
         None => {
             let fault = later();
-            Err(says_fault(alloc, fault_file(&reading, &file, &fault), fault))
+            Err(says_fault(fault_file(&reading, file, &fault)?, fault))
         }
     }
+}
+
+/// The application `app`, whose file is `app.nc`.
+pub(crate) fn read_application<F: Files>(
+    alloc: Global,
+    files: &mut F,
+    app: &str,
+) -> Result<Application, Stop>
+    ensures outside { Reads result (F.seen files.old) (F.seen files.new) }
+    ensures wired { IfOk result (λ a. IsApplication a) }
+    ensures program { IfOk result (λ a. (told : Told) → (F.seen files.old).texts ≡ Some told → HasProgram told app.now (program_of a.program)) }
+    ensures says { IfErr result (λ s. IfSays s (SaysOfSource (F.seen files.old).texts app.now)) }
+{
+    let writes = read_writes(alloc, files, app)?;
+    Ok(Application {
+        program: wired_program(alloc, app, &writes)?,
+        writes: port_writes(alloc, &writes)?,
+    })
 }

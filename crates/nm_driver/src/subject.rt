@@ -1,55 +1,54 @@
 //! What is run: the image of an application, or one from a file.
 
-ghost use Rattle.std.specs.Prelude.{◌≡◌, ◌≤◌, ℕ, List, IfOk, IfErr, string_bytes};
-ghost use Rattle.nm_base.specs.Outside.{Rose};
-ghost use Rattle.nm_driver.specs.Output.{IfMissing};
-ghost use Rattle.nm_driver.specs.Prepared.{IfSays, PrintsAs, SaysOfSubject};
-ghost use Rattle.nm_driver.specs.RunText.{head_text};
+ghost use Rattle.std.specs.Prelude.{◌≡◌, IfOk, IfErr, string_bytes};
+ghost use Rattle.nm_driver.specs.Prepared.{IfSays, PrintsAs, Reads, SaysOfSubject};
+ghost use Rattle.nm_driver.specs.RunText.{sizes_text};
 
 use crate::answer::Stop;
 use crate::compile::compile;
 use crate::files::read_loaded;
-use crate::source::read_source;
-use crate::status::Status;
+use crate::source::read_application;
 use crate::words::Mode;
-use mote_text::{Loaded, load_image, push_image};
+use mote_text::{Loaded, load_image};
 use msp_isa::Image;
 use nm_base::{Files, NoMemory};
 use std::alloc::Global;
 
-/// An image, and what is printed before the trace of its run.
+/// What is printed of an application before its trace: the report with the bytes of data and of stack, and the image.
+#[derive(Drop)]
+pub(crate) struct Head {
+    pub sizes: String,
+    pub image: Image,
+}
+
+/// What is run, and what is printed of it before the trace.
 #[derive(Drop)]
 pub(crate) struct Subject {
-    pub head: String,
+    pub head: Option<Head>,
     pub image: Loaded,
 }
 
-// What is printed of an application before its trace.
-fn head_of(alloc: Global, image: &Image) -> Result<String, NoMemory>
-    ensures { IfOk result (λ text. string_bytes text ≡ head_text image.now.code.items image.now.vectors image.now.ram image.now.stack) }
+fn sizes_of(alloc: Global, image: &Image) -> Result<String, NoMemory>
+    ensures { IfOk result (λ text. string_bytes text ≡ sizes_text image.now.ram image.now.stack) }
 {
     let ram = image.ram;
     let stack = image.stack;
-    let mut text = format!(in alloc; "races 0\ndata {ram}\nstack {stack}\n")?;
-    push_image(&mut text, image)?;
-    text.push_str("trace\n")?;
-    Ok(text)
+    Ok(format!(in alloc; "races 0\ndata {ram}\nstack {stack}\n")?)
 }
 
 fn application<F: Files>(alloc: Global, files: &mut F, app: &str) -> Result<Subject, Stop>
-    ensures same { F.texts files.new ≡ F.texts files.old }
-    ensures faults { F.faults files.old ≤ F.faults files.new }
-    ensures misses { (n : List ℕ) → F.misses files.old n ≤ F.misses files.new n }
-    ensures prints { IfOk result (PrintsAs (F.texts files.old) Mode.Run app.now) }
-    ensures says { IfErr result (λ s. IfSays s (SaysOfSubject (F.texts files.old) Mode.Run app.now)) }
-    ensures read_fault { IfErr result (λ s. IfSays s (λ a. a.status ≡ Status.ReadFault → Rose (F.faults files.old) (F.faults files.new))) }
-    ensures missing { IfErr result (λ s. IfSays s (λ a. IfMissing a.status (λ n. Rose (F.misses files.old n) (F.misses files.new n)))) }
+    ensures outside { Reads result (F.seen files.old) (F.seen files.new) }
+    ensures prints { IfOk result (PrintsAs (F.seen files.old).texts Mode.Run app.now) }
+    ensures says { IfErr result (λ s. IfSays s (SaysOfSubject (F.seen files.old).texts Mode.Run app.now)) }
 {
-    let writes = read_source(alloc, files, app)?;
-    let compiled = compile(alloc, app, &writes)?;
+    let application = read_application(alloc, files, app)?;
+    let image = compile(alloc, &application)?;
     Ok(Subject {
-        head: head_of(alloc, &compiled.image)?,
-        image: load_image(alloc, &compiled.image)?,
+        image: load_image(alloc, &image)?,
+        head: Some(Head {
+            sizes: sizes_of(alloc, &image)?,
+            image,
+        }),
     })
 }
 
@@ -60,18 +59,14 @@ pub(crate) fn subject_of<F: Files>(
     mode: Mode,
     name: &str,
 ) -> Result<Subject, Stop>
-    ensures same { F.texts files.new ≡ F.texts files.old }
-    ensures faults { F.faults files.old ≤ F.faults files.new }
-    ensures misses { (n : List ℕ) → F.misses files.old n ≤ F.misses files.new n }
-    ensures prints { IfOk result (PrintsAs (F.texts files.old) mode name.now) }
-    ensures says { IfErr result (λ s. IfSays s (SaysOfSubject (F.texts files.old) mode name.now)) }
-    ensures read_fault { IfErr result (λ s. IfSays s (λ a. a.status ≡ Status.ReadFault → Rose (F.faults files.old) (F.faults files.new))) }
-    ensures missing { IfErr result (λ s. IfSays s (λ a. IfMissing a.status (λ n. Rose (F.misses files.old n) (F.misses files.new n)))) }
+    ensures outside { Reads result (F.seen files.old) (F.seen files.new) }
+    ensures prints { IfOk result (PrintsAs (F.seen files.old).texts mode name.now) }
+    ensures says { IfErr result (λ s. IfSays s (SaysOfSubject (F.seen files.old).texts mode name.now)) }
 {
     match mode {
         Mode::Run => application(alloc, files, name),
         Mode::Mote => Ok(Subject {
-            head: String::new(alloc),
+            head: None,
             image: read_loaded(alloc, files, name)?,
         }),
     }

@@ -1,23 +1,23 @@
 //! The top call: from the words of a command line to what is written.
 
-ghost use Rattle.std.specs.Prelude.{◌≡◌, ◌⊎◌, ◌≤◌, Some, map, string_bytes, vec_len};
-ghost use Rattle.nm_base.specs.Outside.{Rose};
-ghost use Rattle.nesc_preproc.specs.Expands.{Told};
+ghost use Rattle.std.specs.Prelude.{◌≡◌, ◌≤◌, map, string_bytes, vec_len};
+ghost use Rattle.nm_base.specs.Outside.{Writes};
 ghost use Rattle.mote_bus.specs.Slots.{board_of};
 ghost use Rattle.msp_isa.specs.Image.{bytes_map};
 ghost use Rattle.mote_run.specs.Held.{IsFresh, board_in, image_in};
 ghost use Rattle.mote_run.specs.Rows.{DoNotFall};
-ghost use Rattle.mote_run.specs.Writes.{Writes};
-ghost use Rattle.nm_driver.specs.Output.{HasCause, IfMissing, IsDone, IsUsageOrLess, Wrote};
-ghost use Rattle.nm_driver.specs.Prepared.{Ends, IsRunStatus, Performs, text_on};
-ghost use Rattle.nm_driver.specs.Words.{AreInUse};
+ghost use Rattle.nm_base.specs.Outside.{Writes};
+ghost use Rattle.nm_driver.specs.Output.{IsAnswer};
+ghost use Rattle.nm_driver.specs.Prepared.{Ends, IsRunStatus, Performs, head_bytes, text_on};
 
-use crate::answer::Stop;
+use crate::answer::{Stop, line_of};
 use crate::prepared::{Prepared, prepare};
 use crate::status::Status;
+use crate::subject::Head;
 use mote_bus::Board;
 use mote_devices::Device;
 use mote_run::{AsMote, BoardMote, MoteOf};
+use mote_text::print_image;
 use nesc_preproc::one_expansion;
 use nm_base::{Files, Sink, WriteFault, write_all};
 use std::alloc::Global;
@@ -34,37 +34,27 @@ pub fn tool<F: Files, S: Sink>(
     board: Vec<Box<dyn Device>>,
 ) -> Status
     requires devices { vec_len board ≤ 8 }
-    ensures same { F.texts files.new ≡ F.texts files.old }
-    // A fault of the outside comes only where its count rose; a file is missing only where a read said so.
-    ensures read_fault { result ≡ Status.ReadFault → Rose (F.faults files.old) (F.faults files.new) }
-    ensures write_fault { result ≡ Status.WriteFault → Rose (S.faults out.old) (S.faults out.new) }
-    ensures missing { IfMissing result (λ name. Rose (F.misses files.old name) (F.misses files.new name)) }
-    // Usage comes exactly where the words are not in use.
-    ensures usage { result ≡ Status.Usage → AreInUse (map string_bytes words.now) → ⊥ }
-    ensures not_usage { (AreInUse (map string_bytes words.now) → ⊥) → IsUsageOrLess result }
-    // Each other answer has its cause in the words and in the files, where these are told.
-    ensures cause { (told : Told) → F.texts files.old ≡ Some told → HasCause told (map string_bytes words.now) result }
-    // Where words and files are good and no count rises, it is done, or memory was refused.
-    ensures complete { (told : Told) → F.texts files.old ≡ Some told → IsDone told (map string_bytes words.now) →
-        (result ≡ Status.Done) ⊎ ((result ≡ Status.NoMemory) ⊎ (Rose (F.faults files.old) (F.faults files.new) ⊎ Rose (S.faults out.old) (S.faults out.new))) }
-    // What was written: the text of the answer, of which a fault leaves a beginning.
-    ensures output { Wrote (F.texts files.old) (map string_bytes words.now) (board_of (map ⟦<Box<dyn Device> as Device>⟧.state board.items)) result (S.taken out.old) (S.taken out.new) }
+    ensures { IsAnswer (map string_bytes words.now) (board_of (map ⟦<Box<dyn Device> as Device>⟧.state board.items)) result
+        (F.seen files.old) (F.seen files.new) (S.seen out.old) (S.seen out.new) }
 {
     one_expansion();
     match prepare(alloc, words, files) {
         Ok(prepared) => perform(alloc, &prepared, board, out),
-        Err(stop) => write_answer(stop, out),
+        Err(stop) => write_answer(alloc, stop, out),
     }
 }
 
-// Writes the answer of a call without a run.
-fn write_answer<S: Sink>(stop: Stop, out: &mut S) -> Status
-    ensures { Ends stop result (S.taken out.old) (S.taken out.new) (S.faults out.old) (S.faults out.new) }
+// Writes the line of an answer without a run.
+fn write_answer<S: Sink>(alloc: Global, stop: Stop, out: &mut S) -> Status
+    ensures { Ends stop result (S.seen out.old) (S.seen out.new) }
 {
     let Stop::Says(answer) = stop else {
         return Status::NoMemory;
     };
-    match write_all(out, &answer.text) {
+    let Ok(line) = line_of(alloc, &answer) else {
+        return Status::NoMemory;
+    };
+    match write_all(out, &line) {
         Ok(()) => answer.status,
         Err(WriteFault) => Status::WriteFault,
     }
@@ -80,7 +70,7 @@ fn perform<S: Sink>(
     requires devices { vec_len board ≤ 8 }
     requires order { DoNotFall prepared.now.rows.items }
     ensures kind { IsRunStatus result }
-    ensures wrote { Performs result (S.taken out.old) (S.taken out.new) (S.faults out.old) (S.faults out.new) (text_on (board_of (map ⟦<Box<dyn Device> as Device>⟧.state board.items)) prepared.now) }
+    ensures wrote { Performs result (S.seen out.old) (S.seen out.new) (text_on (board_of (map ⟦<Box<dyn Device> as Device>⟧.state board.items)) prepared.now) }
 {
     let Ok(mut mote) = BoardMote::load(alloc, &prepared.subject.image, Board::new(board)) else {
         return Status::NoMemory;
@@ -89,6 +79,18 @@ fn perform<S: Sink>(
         Ok(()) => Status::Done,
         Err(WriteFault) => Status::WriteFault,
     }
+}
+
+// What stands before the trace, where something does.
+fn write_head<S: Sink>(head: &Option<Head>, out: &mut S) -> Result<(), WriteFault>
+    ensures { Writes result (S.seen out.old) (S.seen out.new) (head_bytes head.now) }
+{
+    let Some(head) = head else {
+        return Ok(());
+    };
+    write_all(out, head.sizes.as_bytes())?;
+    print_image(&head.image, out)?;
+    write_all(out, b"trace\n")
 }
 
 // What stands before the trace, and the trace.
@@ -100,9 +102,9 @@ fn write_run<S: Sink, D: Device>(
     requires fresh { IsFresh (⟦<MoteOf<D> as AsMote>⟧.held mote.old) }
     requires image { image_in (⟦<MoteOf<D> as AsMote>⟧.held mote.old) ≡ bytes_map prepared.now.subject.image }
     requires order { DoNotFall prepared.now.rows.items }
-    ensures { Writes result (S.taken out.old) (S.taken out.new) (S.faults out.old) (S.faults out.new) (text_on (board_in (⟦<MoteOf<D> as AsMote>⟧.held mote.old)) prepared.now) }
+    ensures { Writes result (S.seen out.old) (S.seen out.new) (text_on (board_in (⟦<MoteOf<D> as AsMote>⟧.held mote.old)) prepared.now) }
 {
-    write_all(out, prepared.subject.head.as_bytes())?;
+    write_head(&prepared.subject.head, out)?;
     mote.run(&prepared.rows, prepared.budget, out)?;
     Ok(())
 }

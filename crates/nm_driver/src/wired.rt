@@ -7,7 +7,7 @@ ghost use Rattle.nesc_core.specs.Plain.{no_exprs, call, convert, read};
 ghost use Rattle.nesc_core.specs.View.{body_of, expr_of, stmt_of, stmts_of, program_of};
 ghost use Rattle.core_meaning.specs.BootBody.{one, ecombine, booted, default_init, default_booted, boot, dispatch_init, converted_literal, in_mainc, in_prelude, write_statement, write_statements};
 ghost use Rattle.nm_driver.specs.Form.{constant_of};
-ghost use Rattle.nm_driver.specs.Output.{wired};
+ghost use Rattle.nm_driver.specs.NamedFiles.{wired};
 
 use crate::form::Constant;
 use nesc_core::{BinOp, Body, CoreExpr, CoreStmt, CoreType, Place, Program, Structs};

@@ -9,7 +9,7 @@ use Rattle.nm_driver.specs.NamedFiles.{later, source_file, status_of}
 use Rattle.nm_driver.specs.Tokens.{spellings}
 use Rattle.nm_driver.proofs.Causes.{if_says_three}
 use Rattle.nm_driver.proofs.Reading.{reads_fault, reads_tokens}
-use Rattle.nm_driver.proofs.source.read_source.Goals as goal
+use Rattle.nm_driver.proofs.source.read_writes.Goals as goal
 
 pub returns-in-Err-clause-says : goal.returns-in-Err-clause-says
 returns-in-Err-clause-says g c =
@@ -17,16 +17,16 @@ returns-in-Err-clause-says g c =
     let known = known_in c.expand.new.state in
     let e = c.in-Err.fault in
     if_says_three c.says_fault.result
-    (λ a status text found. record {
+    (λ a status line found. record {
       cause = e;
       known = known;
       found = found;
       is_status = status;
-      is_text = text ∙ ap (λ n. answer_line n (status_of e)) c.fault_file.ensures ∙ ap (λ n. answer_line (fault_file known n e) (status_of e)) file;
+      is_line = line ∙ ap (λ n. answer_line n (status_of e)) c.fault_file.ensures ∙ ap (λ n. answer_line (fault_file known n e) (status_of e)) file;
       source = λ files h. inl (subst (λ n. Expands files (Some nothing_known) n (Err e) (Some known)) file
           (reads_fault files c.in_ok-file-2.file e c.expand.new.state found (rw c.new-reading.ensures at c.in-Err.ensures.expanded files h)));
     })
-    c.says_fault.ensures.status c.says_fault.ensures.text c.says_fault.ensures.found
+    c.says_fault.ensures.status c.says_fault.ensures.line c.says_fault.ensures.found
 
 pub returns-in-Some-clause-writes : goal.returns-in-Some-clause-writes
 returns-in-Some-clause-writes g c told h =
@@ -50,12 +50,12 @@ returns-clause-says g c =
     let spelled : c.deref.result.now ≡ spellings tokens = c.deref.ensures.value ∙ c.in_ok-tokens-in-Ok.ensures in
     let cause : c.later-fault.result ≡ fault.Refused later = c.later-fault.ensures in
     if_says_three c.says_fault-in-None.result
-    (λ a status text found. record {
+    (λ a status line found. record {
       cause = fault.Refused later;
       known = known;
       found = λ h. h;
       is_status = status ∙ ap status_of cause;
-      is_text = text ∙ ap (λ n. answer_line n (status_of c.later-fault.result)) c.fault_file-in-None.ensures ∙ ap (λ e. answer_line (fault_file known c.in_ok-file-2.file e) (status_of e)) cause ∙ ap (λ n. answer_line (fault_file known n (fault.Refused later)) (status_of (fault.Refused later))) file;
+      is_line = line ∙ ap (λ n. answer_line n (status_of c.later-fault.result)) c.fault_file-in-None.ensures ∙ ap (λ e. answer_line (fault_file known c.in_ok-file-2.file e) (status_of e)) cause ∙ ap (λ n. answer_line (fault_file known n (fault.Refused later)) (status_of (fault.Refused later))) file;
       source = λ files h. inr (
         refl,
         record {
@@ -66,4 +66,4 @@ returns-clause-says g c =
         },
       );
     })
-    c.says_fault-in-None.ensures.status c.says_fault-in-None.ensures.text c.says_fault-in-None.ensures.found
+    c.says_fault-in-None.ensures.status c.says_fault-in-None.ensures.line c.says_fault-in-None.ensures.found

@@ -1,0 +1,23 @@
+use Rattle.std.proofs.Common.{◌≡◌, subst, sym, ap, ◌∙◌}
+use Rattle.nm_driver.specs.NamedFiles.{wired}
+use Rattle.nm_driver.proofs.Writable.{few_writes, good_writes}
+use Rattle.nm_driver.proofs.source.read_application.Goals as goal
+
+pub returns-clause-wired : goal.returns-clause-wired
+returns-clause-wired g c =
+    let form = c.in_ok-writes.ensures.form.1 in
+    record {
+      app = c.args.app.now;
+      constants = c.in_ok-writes.writes.items;
+      few = few_writes form;
+      good = good_writes form.body c.in_ok-writes.writes.items form.statements;
+      program = c.in_ok-wired_program.ensures ∙ ap (wired c.args.app.now) c.deref.ensures.value;
+      writes = c.in_ok-port_writes.ensures;
+    }
+
+pub returns-clause-program : goal.returns-clause-program
+returns-clause-program g c told h = record {
+  writes = c.in_ok-writes.writes.items;
+  source = c.in_ok-writes.ensures.writes told h;
+  is_wired = c.in_ok-wired_program.ensures ∙ ap (wired c.args.app.now) c.deref.ensures.value;
+}
