@@ -1,8 +1,7 @@
 //! The tokens of a file after its directives and macros.
 
-ghost use Rattle.std.specs.Prelude.{◌≡◌, ℕ, ◌≤◌, List as ListOf, Some, Err};
-
-ghost use Rattle.nesc_preproc.specs.Expands.{Told, Expands, IfMissing, KeepsAs, answer_of, is_memory};
+ghost use Rattle.std.specs.Prelude.{◌≡◌, Some};
+ghost use Rattle.nesc_preproc.specs.Expands.{Told, Expands, KeepsAs, answer_of, is_memory};
 ghost use Rattle.nesc_preproc.specs.Kept.{known_of};
 ghost use Rattle.nesc_preproc.specs.Answers.{Counts};
 

@@ -1,10 +1,9 @@
 //! Opening files.
 
-ghost use Rattle.std.specs.Prelude.{◌≡◌, ◌+◌, ◌<◌, ◌≤◌, [], ℕ, List as ListOf, length, slice_index_or, Err, IfErr, OnOk};
-
+ghost use Rattle.std.specs.Prelude.{◌≡◌, ◌+◌, ◌<◌, ◌≤◌, [], ℕ, length, slice_index_or, Err, IfErr, OnOk};
 ghost use Rattle.nesc_macros.specs.Expansion.{max_tokens};
 ghost use Rattle.nesc_preproc.specs.Sources.{World, IsLexing, fetched, fetched_as, file_too_large, max_file, opened, scanned_in, sized, weight};
-ghost use Rattle.nesc_preproc.specs.Expands.{IfMissing};
+ghost use Rattle.nesc_preproc.specs.Answers.{Counts};
 ghost use Rattle.nesc_preproc.specs.Kept.{Allows, Breaks, Fetches, IsNoReadFault, IsTold, OpenedAs, known_of};
 
 use crate::built_in::{built_in_text, is_built_in};

@@ -19,7 +19,7 @@ returns-in-Ok-result-clause-expanded g c told h =
     (scan_settles world (known_of c.args.known) c.args.name.now (known_of c.open_file.new.known) c.in-Ok.tokens.items (ended c.run-result.new.self)
     (c.in-Ok.ensures.opened world h (is_lexing some) (λ j k. refl))
     (from_start world scan.result c.open_file.new.known c.in-Ok.tokens.items _ scan.ensures.known scan.ensures.macros scan.ensures.conditionals scan.ensures.rest scan.ensures.outer scan.ensures.out
-    (c.in-Ok-result.ensures.leads world (c.in-Ok.ensures.same ∙ h) (is_lexing some) (λ j k. refl))))
+    (c.in-Ok-result.ensures.leads world (c.in-Ok.ensures.outside.same ∙ h) (is_lexing some) (λ j k. refl))))
 
 pub returns-clause-expanded : goal.returns-clause-expanded
 returns-clause-expanded g c told h =
@@ -30,4 +30,4 @@ returns-clause-expanded g c told h =
     (λ broken breaks. c.in-Ok.ensures.opened (world_of told broken (lexing some)) h (is_lexing some) breaks)
     (λ world r ends. from_start world scan.result c.open_file.new.known c.in-Ok.tokens.items r scan.ensures.known scan.ensures.macros scan.ensures.conditionals scan.ensures.rest scan.ensures.outer scan.ensures.out ends)
     (λ e. rw (← scan.ensures.known) (c.in-Err-result.ensures.unread (ap Err e)))
-    (λ broken allows. c.in-Err-result.ensures.leads (world_of told broken (lexing some)) (c.in-Ok.ensures.same ∙ h) (is_lexing some) allows))
+    (λ broken allows. c.in-Err-result.ensures.leads (world_of told broken (lexing some)) (c.in-Ok.ensures.outside.same ∙ h) (is_lexing some) allows))
