@@ -1,0 +1,6 @@
+pub mod Numbers
+pub mod OneKind
+pub mod OneAnswer
+pub mod Getters
+pub mod Answered
+pub mod Built

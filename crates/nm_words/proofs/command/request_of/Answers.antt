@@ -1,0 +1,58 @@
+use Rattle.std.proofs.Common.{◌≡◌, ◌∙◌, sym, ap, Some, is_some, rules}
+use Rattle.std.specs.Prelude.{codes}
+use Rattle.std.specs.Str.Parse.{ParsesUnsigned, ExplainsUnsignedError, HasUnsignedDigitsIfOk}
+use Rattle.clap.specs.Words.{found_of, rows_of}
+use Rattle.nm_words.specs.Modes.{takes_schedule}
+use Rattle.nm_words.proofs.Getters.{agree, budget_read, differ, found, found_none, found_some, has_text, lacks, mode_is}
+use Rattle.nm_words.proofs.OneAnswer.{some_same}
+use Rattle.nm_words.proofs.command.request_of.Goals as goal
+
+pub returns-in_err-get_str : goal.returns-in_err-get_str
+returns-in_err-get_str c =
+    let none = found_none (found_of c.args.matches.now) (codes "MODE") c.get_str.result c.get_str.ensures c.in_err-get_str.was in
+    rw c.from_residual.ensures (λ r is. lacks _ _ none is.mode)
+
+pub returns-in_err-mode : goal.returns-in_err-mode
+returns-in_err-mode c =
+    let word = found_some (found_of c.args.matches.now) (codes "MODE") c.get_str.result _ c.get_str.ensures c.in_ok-get_str.was in
+    let other = rw c.in_err-mode.was at c.of_word.ensures in
+    rw c.from_residual-in_err-mode.ensures (λ r is. other r.mode (some_same _ _ (sym word ∙ is.mode)))
+
+pub returns-in_err-subject : goal.returns-in_err-subject
+returns-in_err-subject c =
+    let none = found_none (found_of c.args.matches.now) (codes "APP") c.get_str-2.result c.get_str-2.ensures c.in_err-subject.was in
+    rw c.from_residual-in_err-subject.ensures (λ r is. lacks _ _ none is.subject)
+
+pub returns-then-is_some-takes_schedule : goal.returns-then-is_some-takes_schedule
+returns-then-is_some-takes_schedule c r is =
+    let word = found_some (found_of c.args.matches.now) (codes "MODE") c.get_str.result _ c.get_str.ensures c.in_ok-get_str.was in
+    let names = rw c.in_ok-mode.was at c.of_word.ensures in
+    let mode = mode_is (rows_of (found_of c.args.matches.now)) r _ c.in_ok-mode.mode is word names in
+    let schedule = found (found_of c.args.matches.now) (codes "SCHEDULE") c.get_str-schedule.result c.get_str-schedule.ensures in
+    let is_some_is : c.is_some.result ≡ is_some c.get_str-schedule.result = search rules in
+    let takes_is : c.takes_schedule.result ≡ takes_schedule c.in_ok-mode.mode = search rules in
+    let has = sym (has_text c.get_str-schedule.result) ∙ (ap is_some (sym schedule ∙ is.schedule) ∙ (is.fits ∙ ap takes_schedule mode)) in
+    differ _ _ c.if-is_some-takes_schedule.true (is_some_is ∙ (has ∙ sym takes_is))
+
+pub returns-in_err-budget : goal.returns-in_err-budget
+returns-in_err-budget c =
+    let same = budget_read _ (λ bs r. ParsesUnsigned 32 10 bs r × ExplainsUnsignedError 10 bs r × HasUnsignedDigitsIfOk bs r)
+    (found_of c.args.matches.now) (codes "budget") c.get_one.result c.get_one.ensures.none c.get_one.ensures.value (λ t x g. g.0) in
+    rw c.from_residual-in_err-budget.ensures (λ r is. lacks _ _ (same ∙ c.in_err-budget.was) is.budget)
+
+pub returns : goal.returns
+returns c =
+    let word = found_some (found_of c.args.matches.now) (codes "MODE") c.get_str.result _ c.get_str.ensures c.in_ok-get_str.was in
+    let names = rw c.in_ok-mode.was at c.of_word.ensures in
+    let is_some_is : c.is_some.result ≡ is_some c.get_str-schedule.result = search rules in
+    let takes_is : c.takes_schedule.result ≡ takes_schedule c.in_ok-mode.mode = search rules in
+    let same = agree _ _ c.if-is_some-takes_schedule.false in
+    let read = budget_read _ (λ bs r. ParsesUnsigned 32 10 bs r × ExplainsUnsignedError 10 bs r × HasUnsignedDigitsIfOk bs r)
+    (found_of c.args.matches.now) (codes "budget") c.get_one.result c.get_one.ensures.none c.get_one.ensures.value (λ t x g. g.0) in
+    record {
+      mode = word ∙ ap (λ w. Some w) names;
+      subject = found_some (found_of c.args.matches.now) (codes "APP") c.get_str-2.result _ c.get_str-2.ensures c.in_ok-subject.was;
+      schedule = found (found_of c.args.matches.now) (codes "SCHEDULE") c.get_str-schedule.result c.get_str-schedule.ensures;
+      fits = has_text c.get_str-schedule.result ∙ (sym is_some_is ∙ (same ∙ takes_is));
+      budget = read ∙ c.in_ok-budget.was;
+    }

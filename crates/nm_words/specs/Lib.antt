@@ -1,0 +1,5 @@
+pub mod Modes
+pub mod Command
+pub mod Asked
+pub mod Texts
+pub mod WordRows

@@ -1,0 +1,81 @@
+//! The words of a command line, read by `clap`.
+
+ghost use Rattle.std.specs.Prelude.{◌≡◌, map, string_bytes, Err, IfErr, IfOk, MatchOption, MatchResult};
+ghost use Rattle.clap.specs.Words.{app_of, fault_of, found_of, kind_of, rows_of};
+ghost use Rattle.clap.specs.declared.error.kind.ErrorKind.TheVariants.{DisplayHelp, DisplayVersion, OutOfMemory as ClapNoMemory};
+ghost use Rattle.nm_words.specs.Asked.{AreInUse, AreWords, IsRequest, Requested, asked_of, requested};
+ghost use Rattle.nm_words.specs.Command.{nescmote};
+ghost use Rattle.nm_words.specs.declared.asked.WordsFault.TheVariants.{Usage};
+
+use crate::asked::{Asked, Request, WordsFault};
+use crate::mode::Mode;
+use crate::texts::VERSION;
+use clap::error::ErrorKind;
+use clap::{Arg, ArgMatches, Command, value_parser};
+use std::alloc::{AllocError, Global};
+
+/// The most slots that the words may ask for.
+const MAX_BUDGET: i64 = 1_000_000;
+
+/// The slots of a run where the words name none.
+const DEFAULT_BUDGET: &str = "10000";
+
+// `nescmote MODE APP [SCHEDULE] [--budget N]`; the words do not begin with the program's name.
+fn command<'a>(alloc: Global) -> Result<Command<'a>, AllocError>
+    ensures { IfOk result (λ c. app_of c ≡ nescmote) }
+{
+    let mode = Arg::new(alloc, "MODE").required(true);
+    let app = Arg::new(alloc, "APP").required(true);
+    let schedule = Arg::new(alloc, "SCHEDULE");
+    let budget = Arg::new(alloc, "budget")
+        .long("budget")
+        .value_parser(value_parser!(u32).range(..=MAX_BUDGET))
+        .default_value(DEFAULT_BUDGET);
+    Command::new(alloc, "nescmote")
+        .no_binary_name(true)
+        .version(VERSION)
+        .arg(mode)?
+        .arg(app)?
+        .arg(schedule)?
+        .arg(budget)
+}
+
+/// What the words behind the program's name ask for.
+pub fn asked_by<'a>(alloc: Global, words: &'a [String]) -> Result<Asked<'a>, WordsFault>
+    ensures asked { IfOk result (λ a. AreWords (map string_bytes words.now) (asked_of a)) }
+    ensures usage { result ≡ Err Usage → AreInUse (map string_bytes words.now) → ⊥ }
+{
+    let command = command(alloc)?;
+    match command.try_get_matches_from(words) {
+        Ok(matches) => match request_of(&matches) {
+            Some(request) => Ok(Asked::Request(request)),
+            None => Err(WordsFault::Usage),
+        },
+        Err(error) => match error.kind() {
+            ErrorKind::DisplayHelp => Ok(Asked::Help),
+            ErrorKind::DisplayVersion => Ok(Asked::Version),
+            ErrorKind::OutOfMemory => Err(WordsFault::NoMemory),
+            _ => Err(WordsFault::Usage),
+        },
+    }
+}
+
+// What the matches of a command line ask for; None where the mode is unknown, or a schedule is missing or one too many.
+fn request_of<'a>(matches: &ArgMatches<'a>) -> Option<Request<'a>>
+    ensures { MatchOption result ((r : Requested) → IsRequest (rows_of (found_of matches.now)) r → ⊥)
+        (λ r. IsRequest (rows_of (found_of matches.now)) (requested r)) }
+{
+    let mode = Mode::of_word(matches.get_str("MODE")?)?;
+    let subject = matches.get_str("APP")?;
+    let schedule = matches.get_str("SCHEDULE");
+    if schedule.is_some() != mode.takes_schedule() {
+        return None;
+    }
+    let budget = matches.get_one::<u32>("budget")?;
+    Some(Request {
+        mode,
+        subject,
+        schedule,
+        budget,
+    })
+}

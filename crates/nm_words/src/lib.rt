@@ -1,0 +1,17 @@
+//! The command line: which words are in use, and what they ask for.
+#![tactic(auto)]
+
+mod asked;
+mod command;
+mod mode;
+mod rows;
+mod texts;
+
+pub use asked::{Asked, Request, WordsFault};
+pub use command::asked_by;
+pub use mode::Mode;
+pub use rows::worked_rows;
+pub use texts::{HELP, VERSION};
+
+#[cfg(test)]
+mod tests;

@@ -1,0 +1,22 @@
+//! What `--help` and `--version` print.
+
+/// The text of `--help`.
+pub const HELP: &str = "\
+Compiles a nesC application for an MSP430 mote, and runs its image on a model of that mote.
+
+Usage: nescmote MODE APP [SCHEDULE] [--budget N]
+
+Modes:
+  run APP SCHEDULE     compile the application APP, print its image, and run it
+  mote IMAGE SCHEDULE  run the image in the file IMAGE
+
+What happens to the mote, and when, stands in the file SCHEDULE.
+
+Options:
+  --budget N     slots to run, from 0 to 1000000 [default: 10000]
+  -h, --help     print this help
+  -V, --version  print the version
+";
+
+/// The text of `--version`.
+pub const VERSION: &str = "nescmote 0.1.0\n";
