@@ -23,7 +23,7 @@ pub data Asked : Type 0 where
   help : Asked
   version : Asked
 
--- a number in decimal, that a `+` may stand before
+-- a number in decimal that 32 bits hold; a `+` may stand before it
 abbrev pub number_of : Text → Option ℕ
 number_of text =
     let digits = without_leading_plus text in

@@ -1,8 +1,7 @@
 //! The words of a command line, read by `clap`.
 
-ghost use Rattle.std.specs.Prelude.{◌≡◌, map, string_bytes, Err, IfErr, IfOk, MatchOption, MatchResult};
-ghost use Rattle.clap.specs.Words.{app_of, fault_of, found_of, kind_of, rows_of};
-ghost use Rattle.clap.specs.declared.error.kind.ErrorKind.TheVariants.{DisplayHelp, DisplayVersion, OutOfMemory as ClapNoMemory};
+ghost use Rattle.std.specs.Prelude.{◌≡◌, map, string_bytes, Err, IfOk, MatchOption};
+ghost use Rattle.clap.specs.Words.{app_of, found_of, rows_of};
 ghost use Rattle.nm_words.specs.Asked.{AreInUse, AreWords, IsRequest, Requested, asked_of, requested};
 ghost use Rattle.nm_words.specs.Command.{nescmote};
 ghost use Rattle.nm_words.specs.declared.asked.WordsFault.TheVariants.{Usage};
@@ -20,7 +19,8 @@ const MAX_BUDGET: i64 = 1_000_000;
 /// The slots of a run where the words name none.
 const DEFAULT_BUDGET: &str = "10000";
 
-// `nescmote MODE APP [SCHEDULE] [--budget N]`; the words do not begin with the program's name.
+// `nescmote MODE APP [SCHEDULE] [--budget N]`; the words do not begin with the program's name. What the parser itself
+// writes is not printed: `HELP` and `VERSION` stand for it.
 fn command<'a>(alloc: Global) -> Result<Command<'a>, AllocError>
     ensures { IfOk result (λ c. app_of c ≡ nescmote) }
 {
@@ -40,7 +40,7 @@ fn command<'a>(alloc: Global) -> Result<Command<'a>, AllocError>
         .arg(budget)
 }
 
-/// What the words behind the program's name ask for.
+/// What the words behind the program's name ask for. `Usage` comes exactly where they are not in use.
 pub fn asked_by<'a>(alloc: Global, words: &'a [String]) -> Result<Asked<'a>, WordsFault>
     ensures asked { IfOk result (λ a. AreWords (map string_bytes words.now) (asked_of a)) }
     ensures usage { result ≡ Err Usage → AreInUse (map string_bytes words.now) → ⊥ }

@@ -10,7 +10,8 @@ Modes:
   run APP SCHEDULE     compile the application APP, print its image, and run it
   mote IMAGE SCHEDULE  run the image in the file IMAGE
 
-What happens to the mote, and when, stands in the file SCHEDULE.
+APP is read from the file APP.nc. SCHEDULE is a file of what happens to the mote: lines
+`SLOT arrive DEVICE VALUE`, in the order of their slots.
 
 Options:
   --budget N     slots to run, from 0 to 1000000 [default: 10000]
