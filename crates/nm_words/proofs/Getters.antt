@@ -17,7 +17,7 @@ use Rattle.nm_words.proofs.OneAnswer.{same_mode, some_same}
 abbrev Found1 : Type 0
 Found1 = Option (Bor Text)
 
-abbrev text_in : Found1 → Option Text
+abbrev pub text_in : Found1 → Option Text
 text_in = option_map (λ s. s.now)
 
 pub found : (f : Found) (id : Text) (o : Found1) → text_in o ≡ first_value f id → first_of id (rows_of f) ≡ text_in o

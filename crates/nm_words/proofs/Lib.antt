@@ -4,3 +4,5 @@ pub mod OneAnswer
 pub mod Getters
 pub mod Answered
 pub mod Built
+pub mod Entries
+pub mod Taken

@@ -1,8 +1,13 @@
 -- What the words of a command line ask for, by the parser's function of the words.
-use Rattle.std.specs.Prelude.{◌≡◌, ℕ, ◌&&◌, ◌^◌, nat_lt, if◌then◌else◌, List, [], ◌∷◌, codes, Option, Some, None, is_some, option_and_then, option_map}
+use Rattle.std.specs.Prelude.{◌≡◌, ◌≤◌, ⊤, ◌⊎◌, ℕ, ◌&&◌, ◌^◌, true, pos, nat_lt, if◌then◌else◌, List, [], ◌∷◌, codes, Option, Some, None, is_some, option_and_then, option_map}
 use Rattle.std.specs.Str.Parse.{digits_value, without_leading_plus}
 use Rattle.clap.specs.ValueTests.{is_numeral}
 use Rattle.clap.specs.Words.{Row, Text, fault_of, first_of, matches_of, one_of}
+use Rattle.clap.specs.Lexer.{without_minus}
+use Rattle.clap.specs.Matches.{first_value, one_text}
+use Rattle.clap.specs.Values.{IsSignedIn}
+use Rattle.clap.specs.declared.parser.matches.Found.{Found}
+use Rattle.clap.specs.declared.error.kind.ErrorKind.{ErrorKind}
 use Rattle.clap.specs.declared.error.kind.ErrorKind.TheVariants.{DisplayHelp, DisplayVersion}
 use Rattle.nm_words.specs.Command.{nescmote}
 use Rattle.nm_words.specs.Modes.{mode_word, takes_schedule}
@@ -45,6 +50,34 @@ AreWords words version = fault_of nescmote words ≡ DisplayVersion ∷ []
 
 abbrev pub AreInUse : List Text → Type 0
 AreInUse words = (asked : Asked) × AreWords words asked
+
+-- the parser's range of a budget
+abbrev pub IsInRange : Asked → Type 0
+IsInRange (request r) = r.budget ≤ 1000000
+IsInRange _ = ⊤
+
+-- ---- words that are not in use
+
+-- the parser refuses the words, for another cause than memory
+abbrev pub IsFaulty : List Text → Type 0
+IsFaulty words = (k : ErrorKind) × (fault_of nescmote words ≡ k ∷ []) × (k ≡ DisplayHelp → ⊥) × (k ≡ DisplayVersion → ⊥)
+
+abbrev pub HasUnknownMode : List Row → Type 0
+HasUnknownMode rows = (m : Mode) → first_of (codes "MODE") rows ≡ Some (mode_word m) → ⊥
+
+-- a schedule is missing, or one too many
+abbrev pub HasWrongSchedule : List Row → Type 0
+HasWrongSchedule rows = (m : Mode) × (first_of (codes "MODE") rows ≡ Some (mode_word m)) × (is_some (first_of (codes "SCHEDULE") rows) ≡ takes_schedule m → ⊥)
+
+-- the parser refuses the words, or takes them, and mode and schedule do not fit
+abbrev pub IsRefused : List Text → Type 0
+IsRefused words = IsFaulty words
+    ⊎ ((fault_of nescmote words ≡ []) × (HasUnknownMode (matches_of nescmote words) ⊎ HasWrongSchedule (matches_of nescmote words)))
+
+-- the parser found an application, and a budget in its range
+abbrev pub HasValues : Found → Type 0
+HasValues f = (is_some (first_value f (codes "APP")) ≡ true)
+    × ((text : Text) × (one_text f (codes "budget") ≡ Some (without_minus text)) × IsSignedIn (pos 0) (pos 1000000) text)
 
 -- ---- the code's values, as texts
 

@@ -1,22 +1,27 @@
 -- The command `nescmote MODE APP [SCHEDULE] [--budget N]`, as the parser of command lines reads it.
 use Rattle.std.specs.Prelude.{true, [], ◌∷◌, Some, pos, codes}
-use Rattle.clap.specs.Words.{App, Rule, new_rule}
+use Rattle.clap.specs.Words.{App, Rule, Text, new_rule}
 use Rattle.clap.specs.Simple.{new_shape}
+use Rattle.clap.specs.declared.builder.action.ArgAction.TheVariants.{Set}
 use Rattle.clap.specs.declared.builder.value_parser.ValueParser.TheVariants.{Signed}
+
+-- an argument of one word
+abbrev pub one_word : Text → Rule
+one_word name = record (new_rule name) { action = Some Set }
 
 -- three words in their order, of which the last may be left out
 abbrev pub mode_rule : Rule
-mode_rule = record (new_rule (codes "MODE")) { required = true }
+mode_rule = record (one_word (codes "MODE")) { required = true }
 
 abbrev pub app_rule : Rule
-app_rule = record (new_rule (codes "APP")) { required = true }
+app_rule = record (one_word (codes "APP")) { required = true }
 
 abbrev pub schedule_rule : Rule
-schedule_rule = new_rule (codes "SCHEDULE")
+schedule_rule = one_word (codes "SCHEDULE")
 
 -- `--budget N` anywhere: a number from 0 to 1000000, and 10000 where it is left out
 abbrev pub budget_rule : Rule
-budget_rule = record (new_rule (codes "budget")) {
+budget_rule = record (one_word (codes "budget")) {
   long = Some (codes "budget");
   parser = Some (Signed (pos 0) (pos 1000000));
   defaults = codes "10000" ∷ [];

@@ -1,8 +1,8 @@
 //! The words of a command line, read by `clap`.
 
-ghost use Rattle.std.specs.Prelude.{◌≡◌, map, string_bytes, Err, IfOk, MatchOption};
+ghost use Rattle.std.specs.Prelude.{◌≡◌, ◌⊎◌, ◌≤◌, map, string_bytes, Err, IfOk, IfSome, MatchOption, None};
 ghost use Rattle.clap.specs.Words.{app_of, found_of, rows_of};
-ghost use Rattle.nm_words.specs.Asked.{AreInUse, AreWords, IsRequest, Requested, asked_of, requested};
+ghost use Rattle.nm_words.specs.Asked.{AreInUse, AreWords, HasUnknownMode, HasValues, HasWrongSchedule, IsInRange, IsRefused, IsRequest, Requested, asked_of, requested};
 ghost use Rattle.nm_words.specs.Command.{nescmote};
 ghost use Rattle.nm_words.specs.declared.asked.WordsFault.TheVariants.{Usage};
 
@@ -10,7 +10,7 @@ use crate::asked::{Asked, Request, WordsFault};
 use crate::mode::Mode;
 use crate::texts::VERSION;
 use clap::error::ErrorKind;
-use clap::{Arg, ArgMatches, Command, value_parser};
+use clap::{Arg, ArgAction, ArgMatches, Command, value_parser};
 use std::alloc::{AllocError, Global};
 
 /// The most slots that the words may ask for.
@@ -24,10 +24,13 @@ const DEFAULT_BUDGET: &str = "10000";
 fn command<'a>(alloc: Global) -> Result<Command<'a>, AllocError>
     ensures { IfOk result (λ c. app_of c ≡ nescmote) }
 {
-    let mode = Arg::new(alloc, "MODE").required(true);
-    let app = Arg::new(alloc, "APP").required(true);
-    let schedule = Arg::new(alloc, "SCHEDULE");
+    let mode = Arg::new(alloc, "MODE")
+        .action(ArgAction::Set)
+        .required(true);
+    let app = Arg::new(alloc, "APP").action(ArgAction::Set).required(true);
+    let schedule = Arg::new(alloc, "SCHEDULE").action(ArgAction::Set);
     let budget = Arg::new(alloc, "budget")
+        .action(ArgAction::Set)
         .long("budget")
         .value_parser(value_parser!(u32).range(..=MAX_BUDGET))
         .default_value(DEFAULT_BUDGET);
@@ -43,7 +46,9 @@ fn command<'a>(alloc: Global) -> Result<Command<'a>, AllocError>
 /// What the words behind the program's name ask for. `Usage` comes exactly where they are not in use.
 pub fn asked_by<'a>(alloc: Global, words: &'a [String]) -> Result<Asked<'a>, WordsFault>
     ensures asked { IfOk result (λ a. AreWords (map string_bytes words.now) (asked_of a)) }
+    ensures range { IfOk result (λ a. IsInRange (asked_of a)) }
     ensures usage { result ≡ Err Usage → AreInUse (map string_bytes words.now) → ⊥ }
+    ensures refused { result ≡ Err Usage → IsRefused (map string_bytes words.now) }
 {
     let command = command(alloc)?;
     match command.try_get_matches_from(words) {
@@ -62,8 +67,11 @@ pub fn asked_by<'a>(alloc: Global, words: &'a [String]) -> Result<Asked<'a>, Wor
 
 // What the matches of a command line ask for; None where the mode is unknown, or a schedule is missing or one too many.
 fn request_of<'a>(matches: &ArgMatches<'a>) -> Option<Request<'a>>
-    ensures { MatchOption result ((r : Requested) → IsRequest (rows_of (found_of matches.now)) r → ⊥)
+    ensures asked { MatchOption result ((r : Requested) → IsRequest (rows_of (found_of matches.now)) r → ⊥)
         (λ r. IsRequest (rows_of (found_of matches.now)) (requested r)) }
+    ensures range { HasValues (found_of matches.now) → IfSome result (λ r. r.budget ≤ 1000000) }
+    ensures refused { result ≡ None → HasValues (found_of matches.now) →
+        HasUnknownMode (rows_of (found_of matches.now)) ⊎ HasWrongSchedule (rows_of (found_of matches.now)) }
 {
     let mode = Mode::of_word(matches.get_str("MODE")?)?;
     let subject = matches.get_str("APP")?;
