@@ -9,6 +9,10 @@ use Rattle.clap.specs.declared.error.kind.ErrorKind.{ErrorKind}
 use Rattle.clap.specs.declared.error.kind.ErrorKind.TheVariants.{DisplayHelp, DisplayVersion, OutOfMemory}
 use Rattle.nm_words.specs.Asked.{AreInUse, IsRequest, Requested, help, request, version}
 use Rattle.nm_words.specs.Command.{nescmote}
+use Rattle.std.proofs.Common.{ap, is_some}
+use Rattle.nm_words.specs.Asked.{IsRefused}
+use Rattle.nm_words.specs.Modes.{takes_schedule}
+use Rattle.nm_words.proofs.OneAnswer.{same_mode, some_same}
 use Rattle.nm_words.proofs.OneKind.{among_one, fault_one}
 
 pub simple : is_simple_and_free nescmote ≡ true
@@ -59,3 +63,12 @@ pub refuses : (words : List Text) (k : ErrorKind) → fault_of nescmote words �
 refuses words k fails not_help not_version (request r, h) = no_kinds _ k h.0 fails
 refuses words k fails not_help not_version (help, h) = not_help (one_same _ _ _ fails h)
 refuses words k fails not_help not_version (version, h) = not_version (one_same _ _ _ fails h)
+
+-- what is refused is not in use
+pub refused_apart : (words : List Text) → IsRefused words → AreInUse words → ⊥
+refused_apart words (inl (k, fails, not_help, not_version)) in_use = refuses words k fails not_help not_version in_use
+refused_apart words (inr (taken, inl unknown)) in_use = asks_nothing words taken (λ r is. unknown r.mode is.mode) in_use
+refused_apart words (inr (taken, inr (m, named, wrong))) in_use =
+    asks_nothing words taken (λ r is.
+    let same : r.mode ≡ m = same_mode r.mode m (some_same _ _ (sym is.mode ∙ named)) in
+    wrong (ap is_some is.schedule ∙ (is.fits ∙ ap takes_schedule same))) in_use

@@ -3,12 +3,14 @@
 
 mod asked;
 mod command;
+mod laws;
 mod mode;
 mod rows;
 mod texts;
 
 pub use asked::{Asked, Request, WordsFault};
 pub use command::asked_by;
+pub use laws::one_answer;
 pub use mode::Mode;
 pub use rows::worked_rows;
 pub use texts::{HELP, VERSION};
