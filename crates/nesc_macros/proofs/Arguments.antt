@@ -7,8 +7,7 @@ use Rattle.std.proofs.lemmas.Bool.{ltb-false}
 use Rattle.std.proofs.lemmas.List.Sums.{fails_before_first}
 use Rattle.std.proofs.lemmas.Option.{slice_get_past, slice_get_read}
 use Rattle.std.proofs.lemmas.List.Quantifiers.{position-Some}
-use Rattle.nesc_macros.specs.declared.definition.PreprocessingToken.{PreprocessingToken}
-use Rattle.nesc_macros.specs.Invocation.{Name, same_name}
+use Rattle.nesc_macros.specs.Invocation.{Name, PreprocessingToken, same_name}
 use Rattle.nesc_macros.specs.Expansion.{argument_of}
 
 -- the parameter at this place is the first of this name

@@ -1,2 +1,4 @@
 pub mod Arguments
 pub mod Turns
+pub mod Naming
+pub mod Replacing

@@ -8,9 +8,8 @@ use Rattle.nm_base.specs.declared.refusal.Refusal.TheVariants as refusal
 use Rattle.nm_base.specs.declared.fault.Fault.{Fault}
 use Rattle.nm_base.specs.declared.fault.Fault.TheVariants as fault
 use Rattle.nesc_macros.specs.declared.definition.Macro.{Macro}
-use Rattle.nesc_macros.specs.declared.definition.PreprocessingToken.{PreprocessingToken}
-use Rattle.nesc_macros.specs.Invocation.{Name, Passes, ObjectLike, FunctionLike, Misused, use_of, Actuals}
-use Rattle.nesc_macros.specs.Expansion.{Answer, ExpandsTo, FailsTo, Settles, all_of, and_then, by_use, expanded, gives, go_on, max_tokens, object_replacement, placed, put_where, tokens_of, too_many, unhidden}
+use Rattle.nesc_macros.specs.Invocation.{Name, PreprocessingToken, Passes, ObjectLike, FunctionLike, Misused, use_of, Actuals}
+use Rattle.nesc_macros.specs.Expansion.{Answer, ExpandsTo, FailsTo, Settles, all_of, and_then, by_use, expanded, gives, go_on, intersection, max_tokens, object_replacement, placed, put_where, tokens_of, too_many, unhidden}
 use Rattle.nesc_macros.specs.Code.{UnlessNoMemory}
 use Rattle.nesc_macros.specs.Frames.{EndsIn, LeadsTo, ResumesTo, Suspended, answered, behind, completed, replaced, resumed, value_behind, with_argument}
 
@@ -71,11 +70,12 @@ object_is_replaced macros count now frames out rest list next t m whole is list-
       ends.2,
     )
 
-pub function_is_used : (macros : List Macro) (count : ℕ) (frames : List Suspended) (out rest : Tokens) (expanded-so-far : List Tokens) (t : PreprocessingToken) (m : Macro) (parameters : List Name) (found : Actuals) (whole : Answer Tokens) → use_of macros t rest ≡ FunctionLike m parameters found → expanded-so-far ≡ []
-    → ResumesTo macros count (record { token = t; definition = m; parameters = parameters; close = found.close; expanded = expanded-so-far; waiting = found.arguments; out = out; pending = found.rest }) frames whole
+pub function_is_used : (macros : List Macro) (count : ℕ) (frames : List Suspended) (out rest : Tokens) (expanded-so-far : List Tokens) (hide_set : List Name) (t : PreprocessingToken) (m : Macro) (parameters : List Name) (found : Actuals) (whole : Answer Tokens) → use_of macros t rest ≡ FunctionLike m parameters found → expanded-so-far ≡ [] → hide_set ≡ m.name ∷ intersection t.hide_set found.close.hide_set
+    → ResumesTo macros count (record { pos = t.token.pos; hide_set = hide_set; definition = m; parameters = parameters; expanded = expanded-so-far; waiting = found.arguments; out = out; pending = found.rest }) frames whole
     → EndsIn macros count frames out (t ∷ rest) whole
-function_is_used macros count frames out rest expanded-so-far t m parameters found whole is nothing leads =
-    let resumes = subst (λ (l : List Tokens). ResumesTo macros count (record { token = t; definition = m; parameters = parameters; close = found.close; expanded = l; waiting = found.arguments; out = out; pending = found.rest }) frames whole) nothing leads in (
+function_is_used macros count frames out rest expanded-so-far hide_set t m parameters found whole is nothing hides leads =
+    let emptied = subst (λ (l : List Tokens). ResumesTo macros count (record { pos = t.token.pos; hide_set = hide_set; definition = m; parameters = parameters; expanded = l; waiting = found.arguments; out = out; pending = found.rest }) frames whole) nothing leads in
+    let resumes = subst (λ (l : List Name). ResumesTo macros count (record { pos = t.token.pos; hide_set = l; definition = m; parameters = parameters; expanded = []; waiting = found.arguments; out = out; pending = found.rest }) frames whole) hides emptied in (
       resumes.0,
       from_next (λ (n : ℕ). expanded n macros count (t ∷ rest)) resumes.0 resumes.1.0
           (λ k le. ap (by_use (expanded k macros) count t rest) is ∙ resumes.1.1 k le),
@@ -211,8 +211,8 @@ pub none_left : {A : Type 0} (old new : List A) → old ≡ new → new ≡ drop
 none_left [] new same rest = refl
 none_left (x ∷ old) new same rest = absurd (let len : length (x ∷ old) ≡ length old = ap length (same ∙ rest) in omega (arith, len))
 
-pub too_long_unless : (e : Fault) (count now : ℕ) (outer : List Suspended) (f : Suspended) → e ≡ too_many → now ≡ count → f.waiting ≡ [] → max_tokens < count + length (replaced f f.expanded) → UnlessNoMemory e ((macros : List Macro) → ResumesTo macros count f outer (refused_with e now))
-too_long_unless e count now outer f is same waits past = rw (is, same) (λ macros. function_is_too_long macros count outer f waits past)
+pub too_long_unless : (e : Fault) (count now : ℕ) (outer : List Macro → List Suspended) (f : List Macro → Suspended) → e ≡ too_many → now ≡ count → ((macros : List Macro) → (f macros).waiting ≡ []) → ((macros : List Macro) → max_tokens < count + length (replaced (f macros) (f macros).expanded)) → UnlessNoMemory e ((macros : List Macro) → ResumesTo macros count (f macros) (outer macros) (refused_with e now))
+too_long_unless e count now outer f is same waits past = rw (is, same) (λ macros. function_is_too_long macros count (outer macros) (f macros) (waits macros) (past macros))
 
 pub ends_elsewhere : (macros : List Macro) (count : ℕ) (frames frames' : List Suspended) (out out' pending pending' : Tokens) (whole : Answer Tokens) → frames ≡ frames' → out ≡ out' → pending ≡ pending' → EndsIn macros count frames out pending whole → EndsIn macros count frames' out' pending' whole
 ends_elsewhere macros count frames frames' out out' pending pending' whole frames-is out-is pending-is ends =

@@ -8,8 +8,7 @@ use Rattle.nm_base.specs.declared.fault.Fault.{Fault}
 use Rattle.nm_base.specs.declared.fault.Fault.TheVariants as fault
 use Rattle.nm_base.specs.declared.limit.Which.TheVariants as which
 use Rattle.nesc_macros.specs.declared.definition.Macro.{Macro}
-use Rattle.nesc_macros.specs.declared.definition.PreprocessingToken.{PreprocessingToken}
-use Rattle.nesc_macros.specs.Invocation.{Name, same_name, is_among, Use, Passes, ObjectLike, FunctionLike, Misused, use_of}
+use Rattle.nesc_macros.specs.Invocation.{Name, PreprocessingToken, same_name, is_among, Use, Passes, ObjectLike, FunctionLike, Misused, use_of}
 
 -- ---- replacement
 

@@ -1,38 +1,41 @@
 -- What the list that is being expanded leads to, through the uses whose arguments are being expanded.
 use Rattle.std.specs.Prelude.{◌≡◌, ℕ, ◌+◌, ◌-◌, ◌*◌, List, [], ◌∷◌, ◌++◌, length, map, sum_by, Option, Result, Ok, Err}
 use Rattle.nm_base.specs.declared.fault.Fault.{Fault}
+use Rattle.nm_base.specs.declared.pos.Pos.{Pos}
 use Rattle.nesc_macros.specs.declared.definition.Macro.{Macro}
-use Rattle.nesc_macros.specs.declared.definition.PreprocessingToken.{PreprocessingToken}
+use Rattle.nesc_macros.specs.declared.definition.NumberedToken.{NumberedToken}
 use Rattle.nesc_macros.specs.declared.frames.Frame.{Frame}
-use Rattle.nesc_macros.specs.Invocation.{Name}
-use Rattle.nesc_macros.specs.Expansion.{Answer, Settles, all_of, and_then, expanded, function_replacement, go_on, max_tokens, put}
+use Rattle.nesc_macros.specs.Invocation.{Name, PreprocessingToken}
+use Rattle.nesc_macros.specs.Numbers.{all_shown, names_of}
+use Rattle.nesc_macros.specs.Expansion.{Answer, Settles, all_of, and_then, expanded, go_on, max_tokens, put, substituted}
 use Rattle.nesc_macros.specs.Code.{weight_of_lists}
 
--- a use whose arguments are being expanded, and the list that it stands in: what it gave, and what follows the use
+-- a use whose arguments are being expanded, with the hide set of what replaces it, and the list that it stands in: what it
+-- gave, and what follows the use
 pub record Suspended : Type 0 where
-  pub token : PreprocessingToken
+  pub pos : Pos
+  pub hide_set : List Name
   pub definition : Macro
   pub parameters : List Name
-  pub close : PreprocessingToken
   pub expanded : List (List PreprocessingToken)
   pub waiting : List (List PreprocessingToken)
   pub out : List PreprocessingToken
   pub pending : List PreprocessingToken
 
-abbrev pub suspended : Frame → Suspended
-suspended f = record {
-  token = f.token;
+abbrev pub suspended : List Macro → Frame → Suspended
+suspended macros f = record {
+  pos = f.pos;
+  hide_set = names_of macros f.hide_set;
   definition = f.definition.now;
   parameters = f.parameters.now;
-  close = f.close;
-  expanded = f.expanded.items;
-  waiting = f.waiting.items;
-  out = f.outer.out.items;
-  pending = f.outer.pending.items;
+  expanded = map (all_shown macros) f.expanded.items;
+  waiting = map (all_shown macros) f.waiting.items;
+  out = all_shown macros f.outer.out.items;
+  pending = all_shown macros f.outer.pending.items;
 }
 
-abbrev pub all_suspended : List Frame → List Suspended
-all_suspended = map suspended
+abbrev pub all_suspended : List Macro → List Frame → List Suspended
+all_suspended macros = map (suspended macros)
 
 -- one more argument is expanded
 abbrev pub with_argument : Suspended → List PreprocessingToken → Suspended
@@ -47,7 +50,7 @@ abbrev pub behind : List PreprocessingToken → Answer (List PreprocessingToken)
 behind front a = record { value = value_behind front a.value; count = a.count }
 
 abbrev pub replaced : Suspended → List (List PreprocessingToken) → List PreprocessingToken
-replaced f arguments = function_replacement f.definition f.parameters arguments f.token f.close
+replaced f arguments = substituted f.pos f.hide_set f.parameters arguments f.definition.replacement
 
 -- what the use and what follows it give, with its arguments expanded
 abbrev pub completed : ℕ → List Macro → Suspended → List (List PreprocessingToken) → ℕ → Option (Answer (List PreprocessingToken))
@@ -79,12 +82,12 @@ abbrev pub ResumesTo : List Macro → ℕ → Suspended → List Suspended → A
 ResumesTo macros count f outer whole =
     (b : Answer (List PreprocessingToken)) × Settles (λ steps. resumed steps macros count f) b × LeadsTo macros outer (behind f.out b) whole
 
-abbrev pub weight_of_frame : Suspended → ℕ
-weight_of_frame f = weight_of_lists f.waiting + 2 * length f.pending + 1
+abbrev pub weight_of_frame : Frame → ℕ
+weight_of_frame f = weight_of_lists f.waiting.items + 2 * length f.outer.pending.items + 1
 
-abbrev pub weight_of_frames : List Suspended → ℕ
+abbrev pub weight_of_frames : List Frame → ℕ
 weight_of_frames frames = sum_by weight_of_frame frames
 
 -- what falls with each turn
-abbrev pub weight : ℕ → List Suspended → List PreprocessingToken → ℕ
+abbrev pub weight : ℕ → List Frame → List NumberedToken → ℕ
 weight count frames pending = 2 * (max_tokens - count) + weight_of_frames frames + 2 * length pending

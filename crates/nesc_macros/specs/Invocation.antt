@@ -5,10 +5,14 @@ use Rattle.std.specs.Cmp.Lexicographic.{pointwise}
 use Rattle.nm_base.specs.declared.token.Kind.TheVariants.{Word, Sign}
 use Rattle.nm_base.specs.declared.token.Token.{Token}
 use Rattle.nesc_macros.specs.declared.definition.Macro.{Macro}
-use Rattle.nesc_macros.specs.declared.definition.PreprocessingToken.{PreprocessingToken}
 
 abbrev pub Name : Type 0
 Name = List ℕ
+
+-- a token and the names of the macros that are not replaced in it any more
+pub record PreprocessingToken : Type 0 where
+  pub token : Token
+  pub hide_set : List Name
 
 abbrev pub same_name : Name → Name → Bool
 same_name = pointwise nat_eq

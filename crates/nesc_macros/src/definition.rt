@@ -3,9 +3,9 @@
 use crate::hide_set::HideSet;
 use nm_base::{List, Name, Token};
 
-/// A token and the names of the macros that are not replaced in it any more.
+/// A token and the numbers of the macros that are not replaced in it any more.
 #[derive(Debug, Drop)]
-pub struct PreprocessingToken {
+pub struct NumberedToken {
     pub token: Token,
     pub hide_set: HideSet,
 }

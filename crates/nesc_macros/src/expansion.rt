@@ -1,9 +1,12 @@
 //! The expansion of a list of tokens.
 
 ghost use Rattle.std.specs.Prelude.{◌≡◌, ◌≤◌, IfOk, IfErr, Ok};
-ghost use Rattle.nesc_macros.specs.Expansion.{ExpandsTo, FailsTo, IsExpansionFault, tokens_of, unhidden};
+ghost use Rattle.std.specs.Prelude.{List as ListOf};
+ghost use Rattle.nesc_macros.specs.declared.definition.Macro.{Macro as MacroOf};
+ghost use Rattle.nesc_macros.specs.Numbers.{all_shown, tokens_in};
+ghost use Rattle.nesc_macros.specs.Expansion.{ExpandsTo, FailsTo, IsExpansionFault, unhidden};
 
-use crate::definition::{Macro, PreprocessingToken};
+use crate::definition::{Macro, NumberedToken};
 use crate::frames::{Level, expand_token, resume};
 use crate::hide_set::HideSet;
 use nm_base::{Fault, List, NoMemory, Token};
@@ -11,13 +14,13 @@ use std::alloc::Global;
 use std::collections::VecDeque;
 
 // The tokens of a text, which hide nothing.
-fn unhidden(alloc: Global, tokens: Vec<Token>) -> Result<VecDeque<PreprocessingToken>, NoMemory>
-    ensures { IfOk result (λ all. all.items ≡ unhidden tokens.items) }
+fn unhidden(alloc: Global, tokens: Vec<Token>) -> Result<VecDeque<NumberedToken>, NoMemory>
+    ensures { IfOk result (λ all. (macros : ListOf MacroOf) → all_shown macros all.items ≡ unhidden tokens.items) }
 {
-    let nothing = HideSet::new(alloc, Vec::new(alloc))?;
+    let nothing = HideSet::empty(alloc)?;
     let mut all = VecDeque::new(alloc);
     for token in tokens {
-        all.push_back(PreprocessingToken {
+        all.push_back(NumberedToken {
             token,
             hide_set: nothing.clone()?,
         })?;
@@ -25,8 +28,8 @@ fn unhidden(alloc: Global, tokens: Vec<Token>) -> Result<VecDeque<PreprocessingT
     Ok(all)
 }
 
-fn tokens_of(alloc: Global, expanded: Vec<PreprocessingToken>) -> Result<Vec<Token>, NoMemory>
-    ensures { IfOk result (λ all. all.items ≡ tokens_of expanded.items) }
+fn tokens_in(alloc: Global, expanded: Vec<NumberedToken>) -> Result<Vec<Token>, NoMemory>
+    ensures { IfOk result (λ all. all.items ≡ tokens_in expanded.items) }
 {
     Ok(expanded.into_iter().map(|part| part.token).collect(alloc)?)
 }
@@ -59,7 +62,7 @@ pub fn expand_list(
             frame.expanded.push(List::new(level.out))?;
             level = resume(alloc, count, &mut frames, frame)?;
         } else {
-            return Ok(tokens_of(alloc, level.out)?);
+            return Ok(tokens_in(alloc, level.out)?);
         }
     }
 }

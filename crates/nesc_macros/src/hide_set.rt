@@ -1,41 +1,97 @@
 //! Hide sets.
 
-ghost use Rattle.std.specs.Prelude.{◌≡◌, IfOk};
+ghost use Rattle.std.specs.Prelude.{◌≡◌, ◌∷◌, [], IfOk};
+ghost use Rattle.nesc_macros.specs.Numbers.{common, has, joined};
 
-use nm_base::{List, Name, NoMemory};
+use nm_base::{List, NoMemory};
 use std::alloc::{AllocError, Global};
 use std::marker::Model;
 use std::rc::Rc;
 
-/// The names that are not replaced in a token any more, which contracts see as their list. Its clones share it.
+/// The numbers of the macros that are not replaced in a token any more, which contracts see as their list, the newest first.
+/// Its clones share it.
 #[derive(Debug, Drop)]
 pub struct HideSet {
-    names: Rc<List<Name>>,
+    numbers: Rc<List<usize>>,
 }
 
 impl Model for HideSet {
     ghost use Rattle.std.specs.Prelude.{List, ℕ};
 
-    ghost Value = { List (List ℕ) };
+    ghost Value = { List ℕ };
 
-    ghost view = { λ s. s.names.value };
+    ghost view = { λ s. s.numbers.value };
 }
 
 impl HideSet {
-    /// The hide set of these names.
-    pub fn new(alloc: Global, names: Vec<Name>) -> Result<HideSet, NoMemory>
-        ensures { IfOk result (λ s. s ≡ names.items) }
+    fn of(alloc: Global, numbers: Vec<usize>) -> Result<HideSet, NoMemory>
+        ensures { IfOk result (λ s. s ≡ numbers.items) }
     {
         Ok(HideSet {
-            names: Rc::new(alloc, List::new(names))?,
+            numbers: Rc::new(alloc, List::new(numbers))?,
         })
     }
 
-    /// Its names.
-    pub fn names(&self) -> &[Name]
+    /// The set of no macro.
+    pub fn empty(alloc: Global) -> Result<HideSet, NoMemory>
+        ensures { IfOk result (λ s. s ≡ []) }
+    {
+        HideSet::of(alloc, Vec::new(alloc))
+    }
+
+    fn numbers(&self) -> &[usize]
         ensures { result.now ≡ self.now }
     {
-        self.names.as_ref().as_slice()
+        self.numbers.as_ref().as_slice()
+    }
+
+    /// Whether the macro of this number is in it.
+    pub fn contains(&self, number: usize) -> bool
+        ensures { result ≡ has self.now number }
+    {
+        self.numbers().contains(&number)
+    }
+
+    /// The set with one more macro.
+    pub fn with(&self, alloc: Global, number: usize) -> Result<HideSet, NoMemory>
+        ensures { IfOk result (λ s. s ≡ number ∷ self.now) }
+    {
+        let mut numbers = Vec::new(alloc);
+        numbers.push(number)?;
+        numbers.extend_from_slice(self.numbers())?;
+        HideSet::of(alloc, numbers)
+    }
+
+    /// The macros that are in both.
+    pub fn intersection(&self, alloc: Global, other: &HideSet) -> Result<HideSet, NoMemory>
+        ensures { IfOk result (λ both. both ≡ common self.now other.now) }
+    {
+        if self.numbers() == other.numbers() {
+            return Ok(self.clone()?);
+        }
+        let mut both = Vec::new(alloc);
+        for number in self.numbers() {
+            if other.contains(*number) {
+                both.push(*number)?;
+            }
+        }
+        HideSet::of(alloc, both)
+    }
+
+    /// The macros of this set, and those of the other that are not in it.
+    pub fn union(&self, alloc: Global, other: &HideSet) -> Result<HideSet, NoMemory>
+        ensures { IfOk result (λ all. all ≡ joined self.now other.now) }
+    {
+        if self.numbers().ends_with(other.numbers()) {
+            return Ok(self.clone()?);
+        }
+        let mut all = self.numbers().to_vec(alloc)?;
+        for number in other.numbers() {
+            if !self.contains(*number) {
+                all.push(*number)?;
+            }
+        }
+        HideSet::of(alloc, all)
     }
 }
 
@@ -44,7 +100,7 @@ impl Clone for HideSet {
 
     fn clone(&self) -> Result<HideSet, AllocError> {
         Ok(HideSet {
-            names: self.names.clone()?,
+            numbers: self.numbers.clone()?,
         })
     }
 }

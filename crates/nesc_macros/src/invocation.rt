@@ -1,13 +1,14 @@
 //! What a token is used as, and the arguments of a use.
 
-ghost use Rattle.std.specs.Prelude.{◌≡◌, IfOk};
-ghost use Rattle.nesc_macros.specs.Invocation.{fits};
-ghost use Rattle.nesc_macros.specs.Code.{begins_arguments, IsTaken, IsUsedAs, StepsBy};
-ghost use Rattle.std.specs.Prelude.{List as ListOf};
-ghost use Rattle.nesc_macros.specs.declared.definition.PreprocessingToken.{PreprocessingToken as TokenOf};
+ghost use Rattle.std.specs.Prelude.{◌≡◌, map, List as ListOf, IfOk};
+ghost use Rattle.std.specs.List.{position};
+ghost use Rattle.nesc_macros.specs.Invocation.{fits, same_name, PreprocessingToken};
+ghost use Rattle.nesc_macros.specs.Numbers.{all_shown, shown};
+ghost use Rattle.nesc_macros.specs.Code.{begins_arguments, IsCandidate, IsLess, IsNumbered, IsTaken, IsUsedAs, StepsBy};
+ghost use Rattle.nesc_macros.specs.declared.definition.Macro.{Macro as MacroOf};
 
-use crate::definition::{Macro, PreprocessingToken};
-use crate::names::{is_sign, macro_of, may_be_used};
+use crate::definition::{Macro, NumberedToken};
+use crate::names::{is_sign, is_word};
 use nm_base::{List, Name, NoMemory};
 use std::alloc::Global;
 use std::collections::VecDeque;
@@ -15,16 +16,23 @@ use std::collections::VecDeque;
 /// The arguments of a use, and the parenthesis behind them.
 #[derive(Drop)]
 pub struct Arguments {
-    pub lists: VecDeque<List<PreprocessingToken>>,
-    pub close: PreprocessingToken,
+    pub lists: VecDeque<List<NumberedToken>>,
+    pub close: NumberedToken,
+}
+
+/// A macro with its number.
+#[derive(Clone, Copy)]
+pub struct NumberedMacro<'m> {
+    pub number: usize,
+    pub definition: &'m Macro,
 }
 
 /// What a token is used as.
 #[derive(Drop)]
 pub enum Use<'m> {
     Passes,
-    ObjectLike(&'m Macro),
-    FunctionLike(&'m Macro, &'m [Name], Arguments),
+    ObjectLike(NumberedMacro<'m>),
+    FunctionLike(NumberedMacro<'m>, &'m [Name], Arguments),
     Misused,
 }
 
@@ -38,8 +46,9 @@ enum Mark {
 }
 
 // What the token is, behind so many open parentheses.
-fn mark_of(token: &PreprocessingToken, depth: usize) -> Mark
-    ensures { (now : ListOf TokenOf) (before : ListOf (ListOf TokenOf)) (ts : ListOf TokenOf) → StepsBy result depth token.now now before ts }
+fn mark_of(token: &NumberedToken, depth: usize) -> Mark
+    ensures { (macros : ListOf MacroOf) (now : ListOf PreprocessingToken) (before : ListOf (ListOf PreprocessingToken)) (ts : ListOf PreprocessingToken)
+        → StepsBy result depth (shown macros token.now) now before ts }
 {
     if is_sign(b"(", &token.token) {
         Mark::Opens
@@ -54,7 +63,7 @@ fn mark_of(token: &PreprocessingToken, depth: usize) -> Mark
 
 // Gives back the room of tokens that were taken, where it is most of the room: so lists nested in one another take room for
 // their own tokens alone.
-fn release_room(pending: &mut VecDeque<PreprocessingToken>)
+fn release_room(pending: &mut VecDeque<NumberedToken>)
     ensures { pending.new.items ≡ pending.old.items }
 {
     if pending.len() < pending.capacity() / 4 {
@@ -65,9 +74,10 @@ fn release_room(pending: &mut VecDeque<PreprocessingToken>)
 // Takes the arguments of a use and the parenthesis behind them, or finds that there is none.
 fn take_arguments(
     alloc: Global,
-    pending: &mut VecDeque<PreprocessingToken>,
+    pending: &mut VecDeque<NumberedToken>,
 ) -> Result<Option<Arguments>, NoMemory>
-    ensures { IfOk result (λ found. IsTaken pending.old.items found pending.new.items) }
+    ensures taken { IfOk result (λ found. (macros : ListOf MacroOf) → IsTaken macros pending.old.items found pending.new.items) }
+    ensures less { IfOk result (λ found. IsLess pending.old.items found pending.new.items) }
 {
     let mut lists = VecDeque::new(alloc);
     let mut list = Vec::new(alloc);
@@ -101,8 +111,8 @@ fn take_arguments(
 }
 
 // Whether there is one argument for each parameter; an empty one also fits a macro that has none.
-fn fits(parameters: &[Name], lists: &VecDeque<List<PreprocessingToken>>) -> bool
-    ensures { result ≡ fits parameters.now lists.now.items }
+fn fits(parameters: &[Name], lists: &VecDeque<List<NumberedToken>>) -> bool
+    ensures { (macros : ListOf MacroOf) → result ≡ fits parameters.now (map (all_shown macros) lists.now.items) }
 {
     parameters.len() == lists.len()
         || parameters.is_empty()
@@ -110,38 +120,68 @@ fn fits(parameters: &[Name], lists: &VecDeque<List<PreprocessingToken>>) -> bool
             && lists.iter().any(|list| list.as_slice().is_empty())
 }
 
+// The number of the macro of this name: its place.
+fn number_of(macros: &[Macro], name: &Name) -> Option<usize>
+    ensures { result ≡ position (λ m. same_name m.name name.now) macros.now }
+{
+    macros.iter().position(|m| &m.name == name)
+}
+
+// The macro of this name, with its number.
+fn numbered<'m>(macros: &'m [Macro], name: &Name) -> Option<NumberedMacro<'m>>
+    ensures { IsNumbered macros.now name.now result }
+{
+    let number = number_of(macros, name)?;
+    let definition = macros.get(number)?;
+    Some(NumberedMacro { number, definition })
+}
+
+// The macro that the token may be used as: that of its name, where it is not hidden in it.
+fn candidate<'m>(macros: &'m [Macro], token: &NumberedToken) -> Option<NumberedMacro<'m>>
+    ensures { IsCandidate macros.now token.now result }
+{
+    if !is_word(&token.token) {
+        return None;
+    }
+    let found = numbered(macros, &token.token.text)?;
+    if token.hide_set.contains(found.number) {
+        return None;
+    }
+    Some(found)
+}
+
 /// What the token before `pending` is used as. The arguments of a use are taken from there.
 pub fn use_at<'m>(
     alloc: Global,
     macros: &'m [Macro],
-    token: &PreprocessingToken,
-    pending: &mut VecDeque<PreprocessingToken>,
+    token: &NumberedToken,
+    pending: &mut VecDeque<NumberedToken>,
 ) -> Result<Use<'m>, NoMemory>
     ensures { IfOk result (λ found. IsUsedAs macros.now token.now pending.old.items found pending.new.items) }
 {
-    if !may_be_used(token) {
-        return Ok(Use::Passes);
-    }
-    let Some(definition) = macro_of(macros, &token.token.text) else {
+    let Some(found) = candidate(macros, token) else {
         return Ok(Use::Passes);
     };
-    let Some(parameters) = &definition.parameters else {
-        return Ok(Use::ObjectLike(definition));
+    let Some(parameters) = &found.definition.parameters else {
+        return Ok(Use::ObjectLike(found));
     };
     if !begins_arguments(pending) {
         return Ok(Use::Passes);
     }
     pending.pop_front();
-    match take_arguments(alloc, pending)? {
-        Some(arguments) if fits(parameters.as_slice(), &arguments.lists) => {
-            Ok(Use::FunctionLike(definition, parameters.as_slice(), arguments))
-        }
-        _ => Ok(Use::Misused),
+    let Some(arguments) = take_arguments(alloc, pending)? else {
+        return Ok(Use::Misused);
+    };
+    let parameters = parameters.as_slice();
+    if fits(parameters, &arguments.lists) {
+        Ok(Use::FunctionLike(found, parameters, arguments))
+    } else {
+        Ok(Use::Misused)
     }
 }
 
 // Whether an opening parenthesis is at the front.
-fn begins_arguments(pending: &VecDeque<PreprocessingToken>) -> bool
+fn begins_arguments(pending: &VecDeque<NumberedToken>) -> bool
     ensures { result ≡ begins_arguments pending.now.items }
 {
     pending

@@ -12,9 +12,8 @@ mod rows;
 #[cfg(test)]
 mod tests;
 
-pub use definition::{Macro, PreprocessingToken};
+pub use definition::Macro;
 pub use expansion::expand_list;
 pub use frames::MAX_TOKENS;
-pub use hide_set::HideSet;
 pub use names::{is_among, is_sign, is_word, macro_of};
 pub use rows::worked_rows;

@@ -1,48 +1,27 @@
 //! What replaces a use of a macro.
 
-ghost use Rattle.std.specs.Prelude.{◌≡◌, ◌^◌, ◌-◌, ◌∷◌, ◌++◌, length, map, min, IfOk, OnOk, option_copied};
+ghost use Rattle.std.specs.Prelude.{◌≡◌, ◌^◌, ◌+◌, ◌-◌, ◌∷◌, ◌++◌, length, map, min, IfOk, OnOk, Some, option_copied, option_map};
 ghost use Rattle.std.specs.List.{position};
 ghost use Rattle.nesc_macros.specs.Invocation.{same_name};
-ghost use Rattle.nesc_macros.specs.Expansion.{placed, hide, union, argument_of, substituted, object_replacement, function_replacement};
+ghost use Rattle.nesc_macros.specs.Expansion.{placed, hide, union, argument_of, substituted, object_replacement};
+ghost use Rattle.nesc_macros.specs.Numbers.{name_at, names_of, shown, all_shown};
+ghost use Rattle.nesc_macros.specs.Invocation.{PreprocessingToken};
+ghost use Rattle.nesc_macros.specs.declared.definition.Macro.{Macro as MacroOf};
 ghost use Rattle.std.specs.Prelude.{ℕ, List as ListOf};
 ghost use Rattle.nm_base.specs.declared.pos.Pos.{Pos as PosOf};
+ghost use Rattle.nm_base.specs.declared.token.Token.{Token as TokenOf};
 
-use crate::definition::{Macro, PreprocessingToken};
+use crate::definition::{Macro, NumberedToken};
 use crate::hide_set::HideSet;
-use crate::names::{intersection, is_among};
+use crate::invocation::NumberedMacro;
 use nm_base::{List, Name, NoMemory, Pos, Token};
 use std::alloc::Global;
 
-// The names of one list, and those of the other that are not in it.
-fn union(alloc: Global, xs: &[Name], ys: &[Name]) -> Result<HideSet, NoMemory>
-    ensures { IfOk result (λ all. all ≡ union xs.now ys.now) }
-{
-    let mut all = xs.to_vec(alloc)?;
-    for name in ys {
-        if !is_among(xs, name) {
-            all.push(name.clone()?)?;
-        }
-    }
-    HideSet::new(alloc, all)
-}
-
-// The name, and then the others.
-fn with_name(alloc: Global, name: &Name, others: &[Name]) -> Result<HideSet, NoMemory>
-    ensures { IfOk result (λ all. all ≡ name.now ∷ others.now) }
-{
-    let mut all = Vec::new(alloc);
-    all.push(name.clone()?)?;
-    for other in others {
-        all.push(other.clone()?)?;
-    }
-    HideSet::new(alloc, all)
-}
-
 // A token of a replacement list, where the name stood.
-fn placed(pos: Pos, hide_set: &HideSet, token: &Token) -> Result<PreprocessingToken, NoMemory>
-    ensures { IfOk result (λ t. t ≡ placed pos hide_set.now token.now) }
+fn placed(pos: Pos, hide_set: &HideSet, token: &Token) -> Result<NumberedToken, NoMemory>
+    ensures { IfOk result (λ t. (macros : ListOf MacroOf) → shown macros t ≡ placed pos (names_of macros hide_set.now) token.now) }
 {
-    Ok(PreprocessingToken {
+    Ok(NumberedToken {
         token: Token {
             kind: token.kind,
             text: token.text.clone()?,
@@ -59,8 +38,8 @@ fn all_placed(
     pos: Pos,
     hide_set: &HideSet,
     replacement: &[Token],
-) -> Result<Vec<PreprocessingToken>, NoMemory>
-    ensures { IfOk result (λ list. list.items ≡ map (placed pos hide_set.now) replacement.now) }
+) -> Result<Vec<NumberedToken>, NoMemory>
+    ensures { IfOk result (λ list. (macros : ListOf MacroOf) → all_shown macros list.items ≡ map (placed pos (names_of macros hide_set.now)) replacement.now) }
 {
     let mut list = Vec::new(alloc);
     for part in replacement {
@@ -72,34 +51,46 @@ fn all_placed(
 /// What replaces the name `token` of an object-like macro.
 pub fn object_replacement(
     alloc: Global,
-    definition: &Macro,
-    token: &PreprocessingToken,
-) -> Result<Vec<PreprocessingToken>, NoMemory>
-    ensures { IfOk result (λ list. list.items ≡ object_replacement definition.now token.now) }
+    found: NumberedMacro,
+    token: &NumberedToken,
+) -> Result<Vec<NumberedToken>, NoMemory>
+    ensures { IfOk result (λ list. (macros : ListOf MacroOf) → name_at macros found.entry.number ≡ Some found.entry.definition.now.name
+        → all_shown macros list.items ≡ object_replacement found.entry.definition.now (shown macros token.now)) }
 {
-    let hide_set = with_name(alloc, &definition.name, token.hide_set.names())?;
+    let hide_set = token.hide_set.with(alloc, found.number)?;
     all_placed(
         alloc,
         token.token.pos,
         &hide_set,
-        definition.replacement.as_slice(),
+        found.definition.replacement.as_slice(),
     )
 }
 
-// Appends the tokens of an argument, in which more names are hidden.
+// A token of an argument, in which more macros are hidden.
+fn hidden(
+    alloc: Global,
+    hide_set: &HideSet,
+    part: &NumberedToken,
+) -> Result<NumberedToken, NoMemory>
+    ensures { IfOk result (λ t. (macros : ListOf MacroOf) → shown macros t ≡ record { token = part.now.token; hide_set = union (names_of macros hide_set.now) (names_of macros part.now.hide_set) }) }
+{
+    Ok(NumberedToken {
+        token: part.token.clone()?,
+        hide_set: hide_set.union(alloc, &part.hide_set)?,
+    })
+}
+
+// Appends the tokens of an argument, in which more macros are hidden.
 fn push_hidden(
     alloc: Global,
-    list: &mut Vec<PreprocessingToken>,
-    names: &[Name],
-    argument: &[PreprocessingToken],
+    list: &mut Vec<NumberedToken>,
+    hide_set: &HideSet,
+    argument: &[NumberedToken],
 ) -> Result<(), NoMemory>
-    ensures { OnOk result (list.new.items ≡ list.old.items ++ hide names.now argument.now) }
+    ensures { OnOk result ((macros : ListOf MacroOf) → all_shown macros list.new.items ≡ all_shown macros list.old.items ++ hide (names_of macros hide_set.now) (all_shown macros argument.now)) }
 {
     for part in argument {
-        list.push(PreprocessingToken {
-            token: part.token.clone()?,
-            hide_set: union(alloc, names, part.hide_set.names())?,
-        })?;
+        list.push(hidden(alloc, hide_set, part)?)?;
     }
     Ok(())
 }
@@ -114,74 +105,78 @@ fn place_of(parameters: &[Name], name: &Name) -> Option<usize>
 // The argument for the parameter of this name.
 fn argument_of<'a>(
     parameters: &[Name],
-    arguments: &'a [List<PreprocessingToken>],
+    arguments: &'a [List<NumberedToken>],
     name: &Name,
-) -> Option<&'a List<PreprocessingToken>>
-    ensures { option_copied result ≡ argument_of parameters.now arguments.now name.now }
+) -> Option<&'a List<NumberedToken>>
+    ensures { (macros : ListOf MacroOf) → option_map (all_shown macros) (option_copied result) ≡ argument_of parameters.now (map (all_shown macros) arguments.now) name.now }
 {
     let place = place_of(parameters, name)?;
     arguments.get(place)
+}
+
+// How many tokens stand in the place of one of a replacement list.
+fn part_len(parameters: &[Name], arguments: &[List<NumberedToken>], part: &Token) -> usize
+    ensures { (macros : ListOf MacroOf) (pos : PosOf) (hide_set : ListOf (ListOf ℕ)) (ts : ListOf TokenOf)
+        → length (substituted pos hide_set parameters.now (map (all_shown macros) arguments.now) (part.now ∷ ts))
+        ≡ result + length (substituted pos hide_set parameters.now (map (all_shown macros) arguments.now) ts) }
+{
+    match argument_of(parameters, arguments, &part.text) {
+        Some(argument) => argument.as_slice().len(),
+        None => 1,
+    }
 }
 
 /// How many tokens replace a use, or the largest number.
 pub fn replacement_len(
     definition: &Macro,
     parameters: &[Name],
-    arguments: &[List<PreprocessingToken>],
+    arguments: &[List<NumberedToken>],
 ) -> usize
-    ensures { (pos : PosOf) (hide_set : ListOf (ListOf ℕ)) → result ≡ min (length (substituted pos hide_set parameters.now arguments.now definition.now.replacement)) (2 ^ 64 - 1) }
+    ensures { (macros : ListOf MacroOf) (pos : PosOf) (hide_set : ListOf (ListOf ℕ))
+        → result ≡ min (length (substituted pos hide_set parameters.now (map (all_shown macros) arguments.now) definition.now.replacement)) (2 ^ 64 - 1) }
 {
     let mut len: usize = 0;
     for part in definition.replacement.as_slice() {
-        let more = match argument_of(parameters, arguments, &part.text) {
-            Some(argument) => argument.as_slice().len(),
-            None => 1,
-        };
-        len = len.saturating_add(more);
+        len = len.saturating_add(part_len(parameters, arguments, part));
     }
     len
 }
 
-// A replacement list with the arguments in the places of the parameters.
-fn substituted(
+// Appends what stands in the place of one token of a replacement list.
+fn push_part(
+    alloc: Global,
+    list: &mut Vec<NumberedToken>,
+    pos: Pos,
+    hide_set: &HideSet,
+    parameters: &[Name],
+    arguments: &[List<NumberedToken>],
+    part: &Token,
+) -> Result<(), NoMemory>
+    ensures { OnOk result ((macros : ListOf MacroOf) (ts : ListOf TokenOf)
+        → all_shown macros list.new.items ++ substituted pos (names_of macros hide_set.now) parameters.now (map (all_shown macros) arguments.now) ts
+        ≡ all_shown macros list.old.items ++ substituted pos (names_of macros hide_set.now) parameters.now (map (all_shown macros) arguments.now) (part.now ∷ ts)) }
+{
+    match argument_of(parameters, arguments, &part.text) {
+        Some(argument) => push_hidden(alloc, list, hide_set, argument.as_slice()),
+        None => Ok(list.push(placed(pos, hide_set, part)?)?),
+    }
+}
+
+/// A replacement list with the arguments in the places of the parameters.
+pub fn substituted(
     alloc: Global,
     pos: Pos,
     hide_set: &HideSet,
     parameters: &[Name],
-    arguments: &[List<PreprocessingToken>],
+    arguments: &[List<NumberedToken>],
     replacement: &[Token],
-) -> Result<Vec<PreprocessingToken>, NoMemory>
-    ensures { IfOk result (λ list. list.items ≡ substituted pos hide_set.now parameters.now arguments.now replacement.now) }
+) -> Result<Vec<NumberedToken>, NoMemory>
+    ensures { IfOk result (λ list. (macros : ListOf MacroOf)
+        → all_shown macros list.items ≡ substituted pos (names_of macros hide_set.now) parameters.now (map (all_shown macros) arguments.now) replacement.now) }
 {
     let mut list = Vec::new(alloc);
     for part in replacement {
-        match argument_of(parameters, arguments, &part.text) {
-            Some(argument) => push_hidden(alloc, &mut list, hide_set.names(), argument.as_slice())?,
-            None => list.push(placed(pos, hide_set, part)?)?,
-        }
+        push_part(alloc, &mut list, pos, hide_set, parameters, arguments, part)?;
     }
     Ok(list)
-}
-
-/// What replaces the name `token` of a function-like macro, its expanded arguments, and `close`.
-pub fn function_replacement(
-    alloc: Global,
-    definition: &Macro,
-    parameters: &[Name],
-    arguments: &[List<PreprocessingToken>],
-    token: &PreprocessingToken,
-    close: &PreprocessingToken,
-) -> Result<Vec<PreprocessingToken>, NoMemory>
-    ensures { IfOk result (λ list. list.items ≡ function_replacement definition.now parameters.now arguments.now token.now close.now) }
-{
-    let both = intersection(alloc, token.hide_set.names(), close.hide_set.names())?;
-    let hide_set = with_name(alloc, &definition.name, both.as_slice())?;
-    substituted(
-        alloc,
-        token.token.pos,
-        &hide_set,
-        parameters,
-        arguments,
-        definition.replacement.as_slice(),
-    )
 }
