@@ -1,0 +1,55 @@
+#!/usr/bin/env python3
+"""Writes the sources that the preprocessor's times are measured on, into a folder: NAME.nc each, of one shape."""
+import os
+import sys
+
+SIZE = 250_000
+
+
+def plain():
+    line = "int v%d = (a + b) * c[%d] - f(x, y) ; if ( v != 10 ) { g ( v ) ; }\n"
+    return filled(lambda n: line % (n, n))
+
+
+def comments():
+    return filled(lambda n: "/* a comment of some words, number %d, of which no token comes */\n// and another one %d\n" % (n, n)) + "int x;\n"
+
+
+def small_macros():
+    defines = "".join("#define M%d (%d + x)\n" % (n, n) for n in range(100))
+    return defines + "".join("M%d " % (n % 100) + ("\n" if n % 16 == 15 else "") for n in range(20_000)) + "\n"
+
+
+def defines():
+    return "".join("#define NAME%d %d\n#ifdef NAME%d\nint a%d;\n#endif\n" % (n, n, n, n) for n in range(3_800))
+
+
+def chain(length):
+    rows = ["#define F0(x) x\n"]
+    rows += ["#define F%d(x) F%d(x)\n" % (n, n - 1) for n in range(1, length + 1)]
+    return "".join(rows) + "int a = F%d(1);\n" % length
+
+
+def nested(depth):
+    return "#define F(x) x\nint a = " + "F(" * depth + "1" + ")" * depth + ";\n"
+
+
+def filled(row):
+    out, size, n = [], 0, 0
+    while size < SIZE:
+        out.append(row(n))
+        size += len(out[-1])
+        n += 1
+    return "".join(out)
+
+
+SHAPES = {"Plain": plain, "Comments": comments, "SmallMacros": small_macros, "Defines": defines}
+SHAPES.update({"Chain%d" % n: (lambda n=n: chain(n)) for n in (1000, 2000, 4000, 8000)})
+SHAPES.update({"Nested%d" % n: (lambda n=n: nested(n)) for n in (1000, 2000, 4000, 8000)})
+
+if __name__ == "__main__":
+    folder = sys.argv[1]
+    os.makedirs(folder, exist_ok=True)
+    for name, text in SHAPES.items():
+        with open(os.path.join(folder, name + ".nc"), "w") as file:
+            file.write(text())
