@@ -30,15 +30,20 @@ at_group c taken = record { pos = c.pos; taken = c.taken || taken; live = taken;
 abbrev pub at_last_group : Conditional → Conditional
 at_last_group c = record { pos = c.pos; taken = true; live = not c.taken; last = true }
 
--- behind `#else`; None where there is no conditional, or its last group is behind, or something follows
+-- whether these tokens may stand behind `#else` or `#endif`: none in a part that is taken; in a part that is skipped only
+-- the names of conditionals are looked at (C99 6.10.1, paragraph 6). `outer` are the conditionals around this one
+abbrev pub may_follow : List Conditional → List Token → Bool
+may_follow outer line = is_empty line || not (is_live outer)
+
+-- behind `#else`; None where there is no conditional, or its last group is behind, or something follows that may not
 abbrev pub else_at : List Conditional → List Token → Option (List Conditional)
 else_at [] line = None
-else_at (c ∷ cs) line = elim (c.last || not (is_empty line)) [ true ↦ None | false ↦ Some (at_last_group c ∷ cs) ]
+else_at (c ∷ cs) line = elim (c.last || not (may_follow cs line)) [ true ↦ None | false ↦ Some (at_last_group c ∷ cs) ]
 
--- behind `#endif`; None where there is no conditional, or something follows
+-- behind `#endif`; None where there is no conditional, or something follows that may not
 abbrev pub end_at : List Conditional → List Token → Option (List Conditional)
 end_at [] line = None
-end_at (c ∷ cs) line = elim (is_empty line) [ true ↦ Some cs | false ↦ None ]
+end_at (c ∷ cs) line = elim (may_follow cs line) [ true ↦ Some cs | false ↦ None ]
 
 -- the place of the outermost
 abbrev pub outermost : List Conditional → Option Pos

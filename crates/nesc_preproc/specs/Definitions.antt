@@ -81,13 +81,16 @@ abbrev pub only_word : List Token → Option Name
 only_word (t ∷ []) = elim (is_word t) [ true ↦ Some t.text | false ↦ None ]
 only_word _ = None
 
--- the spellings up to `>`, which is the last token of the line
-abbrev pub angled : Name → List Token → Option Name
-angled before [] = None
-angled before (t ∷ ts) =
-    elim (is_sign (codes ">") t) [
-      | true ↦ elim ts [ [] ↦ Some before | ◌∷◌ _ _ ↦ None ]
-      | false ↦ angled (before ++ t.text) ts
+-- the spellings up to `>`, which is the last token of the line; each token touches the one before it
+abbrev pub angled : Token → Name → List Token → Option Name
+angled last before [] = None
+angled last before (t ∷ ts) =
+    elim (touches last t) [
+      | true ↦ elim (is_sign (codes ">") t) [
+        | true ↦ elim ts [ [] ↦ Some before | ◌∷◌ _ _ ↦ None ]
+        | false ↦ angled t (before ++ t.text) ts
+      ]
+      | false ↦ None
     ]
 
 -- the name in a text literal that is the whole line
@@ -101,5 +104,5 @@ included_by [] = None
 included_by (t ∷ ts) =
     elim (t.kind) [
       | Text ↦ quoted t ts
-      | _ ↦ elim (is_sign (codes "<") t) [ true ↦ angled [] ts | false ↦ None ]
+      | _ ↦ elim (is_sign (codes "<") t) [ true ↦ angled t [] ts | false ↦ None ]
     ]

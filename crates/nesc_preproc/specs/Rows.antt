@@ -94,6 +94,26 @@ header =
 abbrev pub fails : List Token
 fails = hash 1 ∷ w 1 2 (codes "ifdef") ∷ w 1 8 (codes "x") ∷ hash 2 ∷ w 2 2 (codes "error") ∷ []
 
+-- #ifdef x
+-- #if
+-- #else y
+-- #endif z
+-- #endif
+-- p
+abbrev pub skips_nested : List Token
+skips_nested =
+    hash 1 ∷ w 1 2 (codes "ifdef") ∷ w 1 8 (codes "x")
+    ∷ hash 2 ∷ w 2 2 (codes "if")
+    ∷ hash 3 ∷ w 3 2 (codes "else") ∷ w 3 7 (codes "y")
+    ∷ hash 4 ∷ w 4 2 (codes "endif") ∷ w 4 8 (codes "z")
+    ∷ hash 5 ∷ w 5 2 (codes "endif")
+    ∷ token true Word 6 1 (codes "p") ∷ []
+
+-- #include <b b.h>
+abbrev pub includes_apart : List Token
+includes_apart =
+    hash 1 ∷ w 1 2 (codes "include") ∷ s 1 10 (codes "<") ∷ w 1 11 (codes "b") ∷ w 1 13 (codes "b") ∷ s 1 14 (codes ".") ∷ w 1 15 (codes "h") ∷ s 1 16 (codes ">") ∷ []
+
 pub record WorkedRows : Type 0 where
   pub loop : reads (includes_itself ∷ []) ≡ Some (Err (fault.Refused (refusal.IncludeLoop (record { file = 0; line = 1; col = 1 }))), 600)
   pub uses_macro : reads (uses ∷ []) ≡ Some (Ok (codes "1" ∷ codes "f" ∷ codes "(" ∷ codes "2" ∷ codes ")" ∷ []), 17)
@@ -101,3 +121,7 @@ pub record WorkedRows : Type 0 where
   pub header_once : reads (includes_twice ∷ header ∷ []) ≡ Some (Ok (codes "q" ∷ codes "7" ∷ []), 32)
   -- `#error` in a part that is skipped does nothing; the conditional is not closed
   pub unbalanced : reads (fails ∷ []) ≡ Some (Err (fault.Refused (refusal.BadDirective (record { file = 0; line = 1; col = 1 }))), 5)
+  -- in a part that is skipped what stands behind `#else` and `#endif` is not looked at
+  pub skipped_lines : reads (skips_nested ∷ []) ≡ Some (Ok (codes "p" ∷ []), 14)
+  -- the tokens of a file's name touch
+  pub apart : reads (includes_apart ∷ []) ≡ Some (Err (fault.Refused (refusal.BadDirective (record { file = 0; line = 1; col = 1 }))), 8)

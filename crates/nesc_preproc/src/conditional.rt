@@ -1,7 +1,7 @@
 //! Open conditionals and their groups.
 
 ghost use Rattle.std.specs.Prelude.{◌≡◌};
-ghost use Rattle.nesc_preproc.specs.Conditionals.{is_live, begun, skipped, at_group, at_last_group, else_at, end_at, Regroups, outermost};
+ghost use Rattle.nesc_preproc.specs.Conditionals.{is_live, begun, skipped, at_group, at_last_group, else_at, end_at, may_follow, Regroups, outermost};
 
 use nm_base::{NoMemory, Pos, Token};
 use std::collections::VecDeque;
@@ -75,6 +75,13 @@ pub(crate) fn is_live(conditionals: &VecDeque<Conditional>) -> bool
     }
 }
 
+// Whether these tokens may stand behind `#else` or `#endif` of a conditional in these ones.
+fn may_follow(outer: &VecDeque<Conditional>, line: &[Token]) -> bool
+    ensures { result ≡ may_follow outer.now.items line.now }
+{
+    line.is_empty() || !is_live(outer)
+}
+
 /// Goes to the group behind `#else`, and answers whether there may be one.
 pub(crate) fn to_last_group(
     conditionals: &mut VecDeque<Conditional>,
@@ -85,7 +92,7 @@ pub(crate) fn to_last_group(
     let Some(innermost) = conditionals.pop_front() else {
         return Ok(false);
     };
-    if innermost.last || !line.is_empty() {
+    if innermost.last || !may_follow(conditionals, line) {
         conditionals.push_front(innermost)?;
         return Ok(false);
     }
@@ -100,10 +107,14 @@ pub(crate) fn close(
 ) -> Result<bool, NoMemory>
     ensures { Regroups result (end_at conditionals.old.items line.now) conditionals.old.items conditionals.new.items }
 {
-    if !line.is_empty() {
+    let Some(closed) = conditionals.pop_front() else {
+        return Ok(false);
+    };
+    if !may_follow(conditionals, line) {
+        conditionals.push_front(closed)?;
         return Ok(false);
     }
-    Ok(conditionals.pop_front().is_some())
+    Ok(true)
 }
 
 /// The place of the outermost.

@@ -216,13 +216,17 @@ pub(crate) fn only_word(line: &[Token]) -> Option<&Name>
     }
 }
 
-// The spellings up to `>`, which has to be the last token.
-fn angled(alloc: Global, tokens: &[Token]) -> Result<Option<Name>, NoMemory>
-    ensures { IfOk result (λ name. name ≡ angled [] tokens.now) }
+// The spellings up to `>`, which has to be the last token. Each touches the one before it.
+fn angled(alloc: Global, open: &Token, tokens: &[Token]) -> Result<Option<Name>, NoMemory>
+    ensures { IfOk result (λ name. name ≡ angled open.now [] tokens.now) }
 {
     let mut spelling = Vec::new(alloc);
+    let mut last = open;
     let mut rest = tokens;
     while let [token, after @ ..] = rest {
+        if !touches(last, token) {
+            return Ok(None);
+        }
         if is_sign(b">", token) {
             if after.is_empty() {
                 return Ok(Some(Name::new(alloc, spelling.as_slice())?));
@@ -230,6 +234,7 @@ fn angled(alloc: Global, tokens: &[Token]) -> Result<Option<Name>, NoMemory>
             return Ok(None);
         }
         spelling.extend_from_slice(token.text.as_bytes())?;
+        last = token;
         rest = after;
     }
     Ok(None)
@@ -266,7 +271,7 @@ pub(crate) fn included_by(alloc: Global, line: &[Token]) -> Result<Option<Name>,
         return quoted(alloc, first, after);
     }
     if is_sign(b"<", first) {
-        return angled(alloc, after);
+        return angled(alloc, first, after);
     }
     Ok(None)
 }

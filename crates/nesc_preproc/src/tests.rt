@@ -118,7 +118,7 @@ fn macros(rt: HostRuntime) -> Result<(), Fail> {
 
 #[test]
 fn conditionals_and_refusals(rt: HostRuntime) -> Result<(), Fail> {
-    const CASES: [(&str, &str); 29] = [
+    const CASES: [(&str, &str); 32] = [
         ("#if 1\n#if 0\na\n#else\nb\n#endif\n#endif", "b"),
         ("#if 0\na\n#elif 1\nb\n#elif 1\nc\n#else\nd\n#endif", "b"),
         ("#if 0\n#elif 0\n#else\nd\n#endif", "d"),
@@ -142,6 +142,9 @@ fn conditionals_and_refusals(rt: HostRuntime) -> Result<(), Fail> {
         ("#if 1\n#else\n#else\n#endif", "E3 0:3:1"),
         ("#if 1\n#else\n#elif 1\n#endif", "E3 0:3:1"),
         ("#if 1\n#endif x", "E3 0:2:1"),
+        ("#if 0\n#else x\n#endif", "E3 0:2:1"),
+        ("#if 0\n#if 1\n#else x\n#endif y\n#endif\na", "a"),
+        ("#if 0\n#if 1\n#else x\n#else y\n#endif\n#endif\na", "E3 0:4:1"),
         (
             "#if 0\n#define\n#include\n#bogus\n#error\n#if 1/0\n#endif\n#endif\na",
             "a",
@@ -161,7 +164,7 @@ fn conditionals_and_refusals(rt: HostRuntime) -> Result<(), Fail> {
 
 #[test]
 fn headers(rt: HostRuntime) -> Result<(), Fail> {
-    const CASES: [(&str, &str, &str); 15] = [
+    const CASES: [(&str, &str, &str); 18] = [
         ("#include \"h.h\"\np", "#define p 5", "5"),
         ("#include <h.h>\np", "#define p 5", "5"),
         (
@@ -174,6 +177,9 @@ fn headers(rt: HostRuntime) -> Result<(), Fail> {
         ("#include h.h", "", "E3 0:1:1"),
         ("#include \"h.h\" x", "", "E3 0:1:1"),
         ("#include <h.h", "", "E3 0:1:1"),
+        ("#include <h h.h>", "", "E3 0:1:1"),
+        ("#include < h.h>", "", "E3 0:1:1"),
+        ("#include <h.h >", "", "E3 0:1:1"),
         ("#include <h.h> x", "", "E3 0:1:1"),
         ("a\n#include \"h.h\"", "\n`", "E1 1:2:1"),
         ("#if 1\n#include \"h.h\"\n#endif", "#endif", "E3 1:1:1"),

@@ -14,4 +14,6 @@ returns c = record {
   takes_else = refl;
   header_once = refl;
   unbalanced = refl;
+  skipped_lines = refl;
+  apart = refl;
 }
