@@ -144,7 +144,10 @@ fn conditionals_and_refusals(rt: HostRuntime) -> Result<(), Fail> {
         ("#if 1\n#endif x", "E3 0:2:1"),
         ("#if 0\n#else x\n#endif", "E3 0:2:1"),
         ("#if 0\n#if 1\n#else x\n#endif y\n#endif\na", "a"),
-        ("#if 0\n#if 1\n#else x\n#else y\n#endif\n#endif\na", "E3 0:4:1"),
+        (
+            "#if 0\n#if 1\n#else x\n#else y\n#endif\n#endif\na",
+            "E3 0:4:1",
+        ),
         (
             "#if 0\n#define\n#include\n#bogus\n#error\n#if 1/0\n#endif\n#endif\na",
             "a",

@@ -12,3 +12,4 @@ pub mod IntegerConstants
 pub mod Comments
 pub mod Tested
 pub mod Exhaustive
+pub mod Whole

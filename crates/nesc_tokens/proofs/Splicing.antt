@@ -15,7 +15,7 @@ no_two_or_three true t e = absurd cc
 no_two_or_three false true e = absurd cc
 no_two_or_three false false e = (refl, refl)
 
-byte_first : (line col b : ℕ) (bs : List ℕ) → splice_len (b ∷ bs) ≡ 0 → spliced (placed line col (b ∷ bs)) ≡ record { byte = b; line = line; col = col } ∷ spliced (placed (line_behind b line) (col_behind b col) bs)
+pub byte_first : (line col b : ℕ) (bs : List ℕ) → splice_len (b ∷ bs) ≡ 0 → spliced (placed line col (b ∷ bs)) ≡ record { byte = b; line = line; col = col } ∷ spliced (placed (line_behind b line) (col_behind b col) bs)
 byte_first line col b [] e = refl
 byte_first line col b (c ∷ []) e = rw (no_two (is_short_splice b c) e) refl
 byte_first line col b (c ∷ d ∷ ds) e = let none = no_two_or_three (is_short_splice b c) (is_long_splice b c d) e in rw (none.0, spliced) (rw (none.1, spliced) refl)

@@ -1,10 +1,11 @@
 -- The longest spelling of one kind at the front of some bytes: what the parts of the lexer find (own).
-use Rattle.std.specs.Prelude.{◌≡◌, ℕ, zero, suc, ◌+◌, ◌<◌, ◌≤◌, Bool, true, false, ◌&&◌, ◌==◌, nat_le, cond, Option, Some, None, List, length, take, drop, slice_index}
+use Rattle.std.specs.Prelude.{◌≡◌, ℕ, zero, suc, ◌+◌, ◌<◌, ◌≤◌, Bool, true, false, ◌&&◌, ◌==◌, nat_eq, nat_le, codes, cond, Option, Some, None, List, length, take, drop, slice_index}
+use Rattle.std.specs.List.{list_any}
 use Rattle.std.specs.Char.{is_ascii_digit, is_ascii_hexdigit}
 use Rattle.nm_base.specs.declared.token.Kind.{Kind}
 use Rattle.nm_base.specs.declared.token.Kind.TheVariants.{Word, Number, Char, Text, Sign}
 use Rattle.nesc_tokens.specs.CodePoints.{apostrophe, quotation_mark, digit_0, letter_x, is_letter}
-use Rattle.nesc_tokens.specs.Spelling.{spells, is_one_of, suffixes, is_digits_and_suffix, is_text_body}
+use Rattle.nesc_tokens.specs.Spelling.{spells, is_one_of, signs, suffixes, is_digits_and_suffix, is_text_body}
 
 -- the only kind of which a spelling can begin with the byte
 abbrev pub kind_at : ℕ → Kind
@@ -67,3 +68,17 @@ begins_hexadecimal bytes =
 -- the longest run of bytes and escapes of a text literal's body at the front
 abbrev pub IsTextRun : ℕ → List ℕ → Type 0
 IsTextRun n bytes = IsTextItem n bytes × NoTextItem (drop n bytes)
+
+-- ---- signs
+
+-- the first m bytes are no sign
+abbrev pub IsNoSign : ℕ → List ℕ → Type 0
+IsNoSign m bytes = (nat_le m (length bytes) && is_one_of signs (take m bytes)) ≡ false
+
+-- the bytes that stand second in a sign
+abbrev pub is_second : ℕ → Bool
+is_second b = list_any (λ c. nat_eq c b) (codes "-+<>=&|.")
+
+-- the signs of one byte
+abbrev pub is_single : ℕ → Bool
+is_single b = list_any (λ c. nat_eq c b) (codes "{}()[];,.<>=+-*/%&|^~!?:@#")

@@ -1,7 +1,7 @@
 //! The bytes of a text as it is read, without its line splices.
 
-ghost use Rattle.std.specs.Prelude.{◌≡◌, ◌<◌, ◌≤◌, ◌+◌, ◌^◌, length, IfOk};
-ghost use Rattle.nesc_tokens.specs.Splices.{col_behind, line_behind, source_of, splice_len};
+ghost use Rattle.std.specs.Prelude.{◌≡◌, ◌<◌, ◌≤◌, ◌+◌, ◌^◌, length, false, IfOk};
+ghost use Rattle.nesc_tokens.specs.Splices.{col_behind, line_behind, placed, source_of, splice_len};
 
 use nm_base::NoMemory;
 use std::alloc::Global;
@@ -26,16 +26,16 @@ fn splice_len(bytes: &[u8]) -> usize
     }
 }
 
-// The line of the byte behind one.
-fn line_behind(byte: u8, line: u32) -> u32
+/// The line of the byte behind one.
+pub fn line_behind(byte: u8, line: u32) -> u32
     requires { line + 1 < 2 ^ 32 }
     ensures { result ≡ line_behind byte line }
 {
     if byte == b'\n' { line + 1 } else { line }
 }
 
-// The column of the byte behind one.
-fn col_behind(byte: u8, col: u32) -> u32
+/// The column of the byte behind one.
+pub fn col_behind(byte: u8, col: u32) -> u32
     requires { col + 1 < 2 ^ 32 }
     ensures { result ≡ col_behind byte col }
 {
@@ -66,4 +66,18 @@ pub fn source_bytes(alloc: Global, text: &[u8]) -> Result<Vec<SourceByte>, NoMem
         at += 1;
     }
     Ok(source)
+}
+
+/// Whether a line splice may stand in a text: where none does, its bytes are read as they stand.
+pub fn has_splice(text: &[u8]) -> bool
+    ensures { result ≡ false → source_of text.now ≡ placed 1 1 text.now }
+{
+    let mut at = 0;
+    while at < text.len() {
+        if splice_len(&text[at..]) > 0 {
+            return true;
+        }
+        at += 1;
+    }
+    false
 }

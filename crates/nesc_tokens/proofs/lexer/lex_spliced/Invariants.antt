@@ -2,7 +2,7 @@ use Rattle.std.proofs.Common.{◌≡◌, ◌-◌, ◌≤◌, drop, length}
 use Rattle.nesc_tokens.specs.Splices.{source_of}
 use Rattle.nesc_tokens.specs.Lexes.{bytes_of}
 use Rattle.nesc_tokens.proofs.Cuts.{Reached}
-use Rattle.nesc_tokens.proofs.lexer.lex.Given as goal
+use Rattle.nesc_tokens.proofs.lexer.lex_spliced.Given as goal
 
 abbrev pub invariant-loop-at : goal.invariant-loop-at
 invariant-loop-at l = record {

@@ -3,7 +3,7 @@ use Rattle.nm_base.specs.declared.refusal.Refusal.TheVariants.{BadChar, OpenComm
 use Rattle.nesc_tokens.specs.declared.pieces.Front.TheVariants as front
 use Rattle.nesc_tokens.specs.Begins.{Begins}
 use Rattle.nesc_tokens.proofs.Cuts.{reached_turn, refused_at}
-use Rattle.nesc_tokens.proofs.lexer.lex.Goals as goal
+use Rattle.nesc_tokens.proofs.lexer.lex_spliced.Goals as goal
 
 pub loop-at-preserved : goal.loop-at-preserved
 loop-at-preserved c =
