@@ -1,5 +1,6 @@
 #!/usr/bin/env python3
-"""Writes the sources that the preprocessor's times are measured on, into a folder: NAME.nc each, of one shape."""
+"""Writes the sources that the preprocessor's times are measured on, into a folder: NAME.nc each, of one shape,
+and an empty schedule, none.txt."""
 import os
 import sys
 
@@ -53,3 +54,5 @@ if __name__ == "__main__":
     for name, text in SHAPES.items():
         with open(os.path.join(folder, name + ".nc"), "w") as file:
             file.write(text())
+    with open(os.path.join(folder, "none.txt"), "w"):
+        pass

@@ -26,7 +26,8 @@ def main():
     program, folder = os.path.abspath(sys.argv[1]), sys.argv[2]
     runs = int(sys.argv[3]) if len(sys.argv) > 3 else 5
     print("%-14s %10s %10s %8s" % ("source", "ours (ms)", "gcc (ms)", "ratio"))
-    for file in sorted(os.listdir(folder), key=lambda f: (len(f), f)):
+    sources = [file for file in os.listdir(folder) if file.endswith(".nc")]
+    for file in sorted(sources, key=lambda f: (len(f), f)):
         name = file[: -len(".nc")]
         ours = best([program, "run", name, "none.txt", "--budget", "0"], folder, runs)
         theirs = best(["gcc", "-E", "-P", "-x", "c", "-o", os.devnull, file], folder, runs)
