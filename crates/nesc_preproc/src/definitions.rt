@@ -217,11 +217,11 @@ pub(crate) fn only_word(line: &[Token]) -> Option<&Name>
 }
 
 // The spellings up to `>`, which has to be the last token. Each touches the one before it.
-fn angled(alloc: Global, open: &Token, tokens: &[Token]) -> Result<Option<Name>, NoMemory>
-    ensures { IfOk result (λ name. name ≡ angled open.now [] tokens.now) }
+fn angled(alloc: Global, bracket: &Token, tokens: &[Token]) -> Result<Option<Name>, NoMemory>
+    ensures { IfOk result (λ name. name ≡ angled bracket.now [] tokens.now) }
 {
     let mut spelling = Vec::new(alloc);
-    let mut last = open;
+    let mut last = bracket;
     let mut rest = tokens;
     while let [token, after @ ..] = rest {
         if !touches(last, token) {
