@@ -33,7 +33,7 @@ AreAt image pc (i ∷ is) end = IsAt image pc i × AreAt image (pc + 2 * length 
 
 -- the words from behind a jump's word to an address
 abbrev pub words_to : ℕ → ℕ → ℤ
-words_to next target = if nat_le next target then pos ((target - next) / 2) else negsuc ((next - target) / 2 - 1)
+words_to next target = if nat_le next target then pos ((target - next) / 2) else negsuc ((next - target - 1) / 2)
 
 -- the condition that holds where this one does not; JN and JMP have none
 abbrev pub reversed : Cond → Cond

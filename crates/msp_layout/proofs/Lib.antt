@@ -1,0 +1,9 @@
+pub mod Items
+pub mod Growing
+pub mod Shortest
+pub mod Stand
+pub mod Functions
+pub mod Deepest
+pub mod Searching
+pub mod Handlers
+pub mod Placed

@@ -1,0 +1,9 @@
+pub mod Bytes
+pub mod Labels
+pub mod Sizes
+pub mod Depth
+pub mod Laid
+pub mod Rounds
+pub mod Rows
+pub mod Search
+pub mod Words

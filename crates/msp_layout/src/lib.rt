@@ -1,0 +1,16 @@
+//! Places of code in an image: the forms of jumps, addresses, vectors, and the bound of the stack.
+#![tactic(auto)]
+
+mod depth;
+mod form;
+mod image;
+mod labels;
+mod rows;
+mod sizes;
+mod stack;
+mod top;
+mod words;
+
+pub use msp_isa::Image;
+pub use rows::worked_rows;
+pub use top::layout;
