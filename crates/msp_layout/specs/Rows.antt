@@ -1,6 +1,10 @@
 -- Worked rows: how far a jump of one word leads, its words, and the longer forms.
 use Rattle.std.specs.Prelude.{◌≡◌, ℕ, true, false, [], ◌∷◌}
+use Rattle.msp_isa.specs.declared.code.Item.{Item}
 use Rattle.msp_isa.specs.declared.code.Item.TheVariants as item
+use Rattle.msp_isa.specs.declared.instr.Op2.TheVariants.{Mov}
+use Rattle.msp_isa.specs.declared.instr.Operand.TheVariants.{Increment, Reg}
+use Rattle.msp_isa.specs.declared.instr.Instr.TheVariants.{Two}
 use Rattle.msp_isa.specs.declared.instr.Cond.TheVariants.{Jeq, Jn, Jmp, Jge}
 use Rattle.msp_isa.specs.Stands.{instructions}
 use Rattle.msp_layout.specs.Sizes.{Reaches}
@@ -9,6 +13,10 @@ use Rattle.msp_layout.specs.Words.{words_of}
 -- functions stand at 0x4400
 abbrev pub at_4400 : ℕ → ℕ
 at_4400 f = 0x4400
+
+-- MOV @SP+, PC
+abbrev pub ret : Item
+ret = item.Is (Two Mov false (Increment 1) (Reg 0))
 
 pub record WorkedRows : Type 0 where
   -- from 0x1000 on: 511 words behind the next instruction, and 512; 512 words before it, and 513

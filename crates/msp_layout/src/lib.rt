@@ -8,6 +8,8 @@ mod labels;
 mod rows;
 mod sizes;
 mod stack;
+#[cfg(test)]
+mod tests;
 mod top;
 mod words;
 
