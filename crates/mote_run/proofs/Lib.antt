@@ -6,3 +6,4 @@ pub mod Seen
 pub mod SlotBySlot
 pub mod Told
 pub mod Writing
+pub mod Gathered

@@ -1,3 +1,4 @@
 pub mod Rows
+pub mod Gathers
 pub mod Held
 pub mod RunText

@@ -13,10 +13,11 @@ ghost use Rattle.mote_text.specs.TraceText.{trace_lines};
 ghost use Rattle.mote_run.specs.Rows.{DoNotFall, due_count, happen, arrivals};
 ghost use Rattle.mote_run.specs.Held.{Held, Follows, IsFresh, image_in, board_in, given_to, all_given, step_of, after_step};
 ghost use Rattle.nm_base.specs.Outside.{Writes};
+ghost use Rattle.mote_run.specs.Gathers.{Gathers, gathering};
 ghost use Rattle.mote_run.specs.RunText.{mote_text, EndsAs, shown_behind as events_behind, in_slot, slot_events};
 
 use crate::stepped::{instructions, is_stop, shown_behind};
-use crate::trace_line::{write_end, write_event};
+use crate::trace_line::{Waiting, gather_end, gather_event, write_waiting};
 use mote_bus::{Access, AsBoard, BusOf, Slots};
 use mote_devices::{Device, Due, Given, Shown};
 use mote_text::{End, Loaded};
@@ -111,50 +112,58 @@ impl<D: Device> MoteOf<D> {
     }
 
     // The rows happen, and each is shown.
-    fn take_due<S: Sink>(&mut self, number: u32, due: &[Due], out: &mut S) -> Result<(), WriteFault>
+    fn take_due<S: Sink>(
+        &mut self,
+        number: u32,
+        due: &[Due],
+        out: &mut S,
+        waiting: &mut Waiting,
+    ) -> Result<(), WriteFault>
         ensures held { OnOk result (⟦<MoteOf<D> as AsMote>⟧.held self.new ≡ all_given (⟦<MoteOf<D> as AsMote>⟧.held self.old) due.now) }
-        ensures wrote { Writes result (S.seen out.old) (S.seen out.new) (trace_lines (in_slot number (arrivals due.now))) }
+        ensures wrote { Gathers result (gathering (S.seen out.old) waiting.old.items) (gathering (S.seen out.new) waiting.new.items) (trace_lines (in_slot number (arrivals due.now))) }
         ensures slots { self.new.slots ≡ self.old.slots }
         ensures ran { self.new.ran ≡ self.old.ran }
     {
         for row in due {
             self.give(row.given);
-            write_event(out, number, Shown::Given(row.given))?;
+            gather_event(out, waiting, number, Shown::Given(row.given))?;
         }
         Ok(())
     }
 
-    // One slot, of which the lines are written: what is due, and then a step.
+    // One slot, of which the lines are gathered: what is due, and then a step.
     fn take_slot<S: Sink>(
         &mut self,
         number: u32,
         due: &[Due],
         out: &mut S,
+        waiting: &mut Waiting,
     ) -> Result<(), WriteFault>
         requires goes_on { self.old.stopped ≡ false }
         requires slots { self.old.slots + 1 < 2 ^ 32 }
         requires ran { self.old.ran + 1 < 2 ^ 32 }
         ensures follows { (running : Running Outside) → Follows (⟦<MoteOf<D> as AsMote>⟧.held self.old) running → OnOk result (Follows (⟦<MoteOf<D> as AsMote>⟧.held self.new) (slot board_ports (happen due.now) running)) }
-        ensures wrote { (running : Running Outside) → Follows (⟦<MoteOf<D> as AsMote>⟧.held self.old) running → Writes result (S.seen out.old) (S.seen out.new) (trace_lines (slot_events number (happen due.now) running)) }
+        ensures wrote { (running : Running Outside) → Follows (⟦<MoteOf<D> as AsMote>⟧.held self.old) running → Gathers result (gathering (S.seen out.old) waiting.old.items) (gathering (S.seen out.new) waiting.new.items) (trace_lines (slot_events number (happen due.now) running)) }
         ensures slots { self.new.slots ≤ self.old.slots + 1 }
         ensures ran { self.new.ran ≤ self.old.ran + 1 }
     {
-        self.take_due(number, due, out)?;
+        self.take_due(number, due, out, waiting)?;
         let stepped = self.step();
-        write_step(out, number, self.bus.accesses(), stepped)
+        gather_step(out, waiting, number, self.bus.accesses(), stepped)
     }
 
-    // So many slots, or those up to the one that stops the mote, of which the lines are written.
+    // So many slots, or those up to the one that stops the mote, of which the lines are gathered.
     fn run_slots<S: Sink>(
         &mut self,
         schedule: &[Due],
         budget: u32,
         out: &mut S,
+        waiting: &mut Waiting,
     ) -> Result<(), WriteFault>
         requires fresh { IsFresh (⟦<MoteOf<D> as AsMote>⟧.held self.old) }
         requires order { DoNotFall schedule.now }
         ensures follows { let m = ⟦<MoteOf<D> as AsMote>⟧.held self.old in OnOk result (Follows (⟦<MoteOf<D> as AsMote>⟧.held self.new) (mote_after (image_in m) (board_in m) schedule.now budget)) }
-        ensures wrote { let m = ⟦<MoteOf<D> as AsMote>⟧.held self.old in Writes result (S.seen out.old) (S.seen out.new) (trace_lines (events (image_in m) (board_in m) schedule.now budget)) }
+        ensures wrote { let m = ⟦<MoteOf<D> as AsMote>⟧.held self.old in Gathers result (gathering (S.seen out.old) waiting.old.items) (gathering (S.seen out.new) waiting.new.items) (trace_lines (events (image_in m) (board_in m) schedule.now budget)) }
     {
         let mut rest = schedule;
         for slot in 0..budget {
@@ -162,14 +171,34 @@ impl<D: Device> MoteOf<D> {
                 return Ok(());
             }
             let (due, later) = rest.split_at(count_due(rest, slot));
-            self.take_slot(slot, due, out)?;
+            self.take_slot(slot, due, out, waiting)?;
             rest = later;
         }
         Ok(())
     }
 
+    // The slots and their lines, and the last line.
+    fn run_to_end<S: Sink>(
+        &mut self,
+        schedule: &[Due],
+        budget: u32,
+        out: &mut S,
+        waiting: &mut Waiting,
+    ) -> Result<End, WriteFault>
+        requires fresh { IsFresh (⟦<MoteOf<D> as AsMote>⟧.held self.old) }
+        requires order { DoNotFall schedule.now }
+        ensures wrote { let m = ⟦<MoteOf<D> as AsMote>⟧.held self.old in Gathers result (gathering (S.seen out.old) waiting.old.items) (gathering (S.seen out.new) waiting.new.items) (mote_text (image_in m) (board_in m) schedule.now budget) }
+        ensures ended { let m = ⟦<MoteOf<D> as AsMote>⟧.held self.old in IfOk result (λ end. EndsAs end (mote (image_in m) (board_in m) schedule.now budget)) }
+        ensures follows { let m = ⟦<MoteOf<D> as AsMote>⟧.held self.old in OnOk result (Follows (⟦<MoteOf<D> as AsMote>⟧.held self.new) (mote_after (image_in m) (board_in m) schedule.now budget)) }
+    {
+        self.run_slots(schedule, budget, out, waiting)?;
+        let end = self.end();
+        gather_end(out, waiting, &end)?;
+        Ok(end)
+    }
+
     /// Runs a mote that was just loaded for `budget` slots, or up to the one that stops it. The rows of the schedule
-    /// happen at the beginning of their slots, which do not fall. Writes one line for each event as it comes, and then
+    /// happen at the beginning of their slots, which do not fall. Writes one line for each event, in large pieces, and then
     /// how the run ended, which it answers; where the sink fails, a part of this text was taken.
     pub fn run<S: Sink>(
         &mut self,
@@ -183,9 +212,9 @@ impl<D: Device> MoteOf<D> {
         ensures ended { let m = ⟦<MoteOf<D> as AsMote>⟧.held self.old in IfOk result (λ end. EndsAs end (mote (image_in m) (board_in m) schedule.now budget)) }
         ensures follows { let m = ⟦<MoteOf<D> as AsMote>⟧.held self.old in OnOk result (Follows (⟦<MoteOf<D> as AsMote>⟧.held self.new) (mote_after (image_in m) (board_in m) schedule.now budget)) }
     {
-        self.run_slots(schedule, budget, out)?;
-        let end = self.end();
-        write_end(out, &end)?;
+        let mut waiting = Waiting::new();
+        let end = self.run_to_end(schedule, budget, out, &mut waiting)?;
+        write_waiting(out, &mut waiting)?;
         Ok(end)
     }
 }
@@ -206,25 +235,31 @@ fn count_due(rows: &[Due], slot: u32) -> usize
 }
 
 // The lines of a step.
-fn write_step<S: Sink>(
+fn gather_step<S: Sink>(
     out: &mut S,
+    waiting: &mut Waiting,
     number: u32,
     accesses: &[Access],
     stepped: Stepped,
 ) -> Result<(), WriteFault>
-    ensures { Writes result (S.seen out.old) (S.seen out.new) (trace_lines (in_slot number (events_of accesses.now ++ events_behind stepped))) }
+    ensures { Gathers result (gathering (S.seen out.old) waiting.old.items) (gathering (S.seen out.new) waiting.new.items) (trace_lines (in_slot number (events_of accesses.now ++ events_behind stepped))) }
 {
     for access in accesses {
-        write_shown(out, number, access.shown())?;
+        gather_shown(out, waiting, number, access.shown())?;
     }
-    write_shown(out, number, shown_behind(stepped))
+    gather_shown(out, waiting, number, shown_behind(stepped))
 }
 
-fn write_shown<S: Sink>(out: &mut S, number: u32, shown: Option<Shown>) -> Result<(), WriteFault>
-    ensures { Writes result (S.seen out.old) (S.seen out.new) (trace_lines (in_slot number (option_to_list shown))) }
+fn gather_shown<S: Sink>(
+    out: &mut S,
+    waiting: &mut Waiting,
+    number: u32,
+    shown: Option<Shown>,
+) -> Result<(), WriteFault>
+    ensures { Gathers result (gathering (S.seen out.old) waiting.old.items) (gathering (S.seen out.new) waiting.new.items) (trace_lines (in_slot number (option_to_list shown))) }
 {
     match shown {
-        Some(shown) => write_event(out, number, shown),
+        Some(shown) => gather_event(out, waiting, number, shown),
         None => Ok(()),
     }
 }

@@ -76,9 +76,9 @@ fn sleeps(rt: HostRuntime) -> Result<(), Fail> {
 
 #[test]
 fn tells_that_the_sink_failed(rt: HostRuntime) -> Result<(), Fail> {
-    let mut sink = MemSink::new(rt.alloc(), 1000, vec![in rt.alloc(); 1]?)?;
+    let mut sink = MemSink::new(rt.alloc(), 16, vec![in rt.alloc()]?)?;
     let end = run(rt.alloc(), GATE, b"3 arrive 2 65\n", 10, &mut sink)?;
     assert_eq!(rt; end, Err(WriteFault));
-    assert_eq!(rt; sink.bytes(), b"0 out 0100 4\n".as_slice());
+    assert_eq!(rt; sink.bytes(), b"0 out 0100 4\n3 a".as_slice());
     Ok(())
 }

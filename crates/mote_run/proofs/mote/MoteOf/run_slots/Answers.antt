@@ -6,11 +6,11 @@ use Rattle.mote_bus.specs.Mote.{mote_after, events}
 use Rattle.mote_text.specs.TraceText.{trace_lines}
 use Rattle.mote_run.specs.Rows.{happen}
 use Rattle.mote_run.specs.Held.{Follows, image_in, board_in}
-use Rattle.nm_base.specs.Outside.{Writes}
+use Rattle.mote_run.specs.Gathers.{Gathers, gathering}
 use Rattle.mote_run.specs.RunText.{slot_events}
 use Rattle.mote_run.proofs.Seen.{held_of}
 use Rattle.mote_run.proofs.SlotBySlot.{stopped, begun, turn}
-use Rattle.nm_base.proofs.Writing.{writes_nothing, goes_on, stops}
+use Rattle.mote_run.proofs.Gathered.{gathers_nothing, goes_on, stops}
 use Rattle.mote_run.proofs.mote.MoteOf.run_slots.Goals as goal
 
 pub loop-slot-init : goal.loop-slot-init
@@ -19,7 +19,7 @@ loop-slot-init g c =
     let ran = c.requires.fresh.ran in
     record {
       follows = c.requires.fresh;
-      wrote = writes_nothing (tt {0}) _;
+      wrote = gathers_nothing (tt {0}) _;
       rest = record { order = c.requires.order; later = λ t le o. refl };
       slots = omega arith;
       ran = omega arith;
@@ -41,7 +41,7 @@ returns-then-self-clause-wrote g c =
     let s = c.loop-slot.slot in
     let f = c.loop-slot.invariant.follows in
     let end = stopped (image_in m) (board_in m) rows s c.args.budget (omega (arith, c.loop-slot-test.true)) (sym f.stopped ∙ c.if-self.true) in
-    subst (λ (l : List ℕ). Writes {A = Unit {0}} (Ok (tt {0})) (g.S.Sink.seen c.args.out.now) (g.S.Sink.seen c.loop-slot.out) l)
+    subst (λ (l : List ℕ). Gathers {A = Unit {0}} (Ok (tt {0})) (gathering (g.S.Sink.seen c.args.out.now) c.args.waiting.now.items) (gathering (g.S.Sink.seen c.loop-slot.out) c.loop-slot.waiting.items) l)
     (ap trace_lines (sym end.events)) c.loop-slot.invariant.wrote
 
 pub returns-in_err-take_slot-clause-wrote : goal.returns-in_err-take_slot-clause-wrote
@@ -84,5 +84,5 @@ returns-clause-wrote g c =
     let m = held_of g.D.Device.state c.args.self.now in
     let rows = c.args.schedule.now in
     let same : c.loop-slot.slot ≡ c.args.budget = omega (arith, c.loop-slot-test.false, c.loop-slot.auto.slot-end) in
-    subst (λ n. Writes {A = Unit {0}} (Ok (tt {0})) (g.S.Sink.seen c.args.out.now) (g.S.Sink.seen c.loop-slot.out) (trace_lines (events (image_in m) (board_in m) rows n)))
+    subst (λ n. Gathers {A = Unit {0}} (Ok (tt {0})) (gathering (g.S.Sink.seen c.args.out.now) c.args.waiting.now.items) (gathering (g.S.Sink.seen c.loop-slot.out) c.loop-slot.waiting.items) (trace_lines (events (image_in m) (board_in m) rows n)))
     same c.loop-slot.invariant.wrote

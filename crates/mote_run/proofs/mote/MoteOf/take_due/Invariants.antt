@@ -3,7 +3,7 @@ use Rattle.std.specs.declared.result.Result.TheVariants.{Ok}
 use Rattle.mote_text.specs.TraceText.{trace_lines}
 use Rattle.mote_run.specs.Rows.{board_after, arrivals}
 use Rattle.mote_run.specs.Held.{board_in, with_board}
-use Rattle.nm_base.specs.Outside.{Writes}
+use Rattle.mote_run.specs.Gathers.{Gathers, gathering}
 use Rattle.mote_run.specs.RunText.{in_slot}
 use Rattle.mote_run.proofs.Seen.{held_of}
 use Rattle.mote_run.proofs.mote.MoteOf.take_due.Given as goal
@@ -16,5 +16,5 @@ invariant-loop-row g l =
     record {
       held : now ≡ with_board before (board_in now);
       rest : board_after (board_in now) (drop l.row-index l.due) ≡ board_after (board_in before) l.due;
-      wrote : Writes {A = Unit {0}} (Ok tt) (g.S.Sink.seen l.fn.out) (g.S.Sink.seen l.out) (trace_lines (in_slot l.number (arrivals (take l.row-index l.due))));
+      wrote : Gathers {A = Unit {0}} (Ok tt) (gathering (g.S.Sink.seen l.fn.out) l.fn.waiting.items) (gathering (g.S.Sink.seen l.out) l.waiting.items) (trace_lines (in_slot l.number (arrivals (take l.row-index l.due))));
     }

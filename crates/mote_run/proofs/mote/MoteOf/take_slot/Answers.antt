@@ -7,7 +7,7 @@ use Rattle.mote_run.specs.Held.{all_given, step_of, after_step}
 use Rattle.mote_run.specs.RunText.{shown_behind}
 use Rattle.mote_run.proofs.Seen.{held_of}
 use Rattle.mote_run.proofs.OneSlot.{slot_done}
-use Rattle.nm_base.proofs.Writing.{fails, goes_on}
+use Rattle.mote_run.proofs.Gathered.{fails, goes_on}
 use Rattle.mote_run.proofs.Writing.{lines_of}
 use Rattle.mote_run.proofs.mote.MoteOf.take_slot.Goals as goal
 
@@ -30,11 +30,11 @@ returns-clause-follows g c = λ running f.
     let m = held_of g.D.Device.state c.args.self.now in
     let done = slot_done c.args.number c.args.due.now m (held_of g.D.Device.state c.take_due.new.self) (held_of g.D.Device.state c.step-stepped.new.self) c.step-stepped.result c.accesses.result.now running
     c.in_ok-take_due.ensures.held c.step-stepped.ensures.held c.step-stepped.ensures.stepped c.accesses.ensures f c.requires.goes_on in
-    in_any_case c.write_step.result done.follows
+    in_any_case c.gather_step.result done.follows
 
 pub returns-clause-wrote : goal.returns-clause-wrote
 returns-clause-wrote g c = λ running f.
     let m = held_of g.D.Device.state c.args.self.now in
     let done = slot_done c.args.number c.args.due.now m (held_of g.D.Device.state c.take_due.new.self) (held_of g.D.Device.state c.step-stepped.new.self) c.step-stepped.result c.accesses.result.now running
     c.in_ok-take_due.ensures.held c.step-stepped.ensures.held c.step-stepped.ensures.stepped c.accesses.ensures f c.requires.goes_on in
-    goes_on (tt {0}) _ _ _ _ (lines_of c.args.number (arrivals c.args.due.now)) _ _ (sym done.text) c.in_ok-take_due.ensures.wrote c.write_step.ensures
+    goes_on (tt {0}) _ _ _ _ (lines_of c.args.number (arrivals c.args.due.now)) _ _ (sym done.text) c.in_ok-take_due.ensures.wrote c.gather_step.ensures
