@@ -5,6 +5,7 @@ pub mod EventWords
 pub mod ScheduleBack
 pub mod ImageCells
 pub mod ImageWords
+pub mod HexPair
 pub mod HexWord
 pub mod ImageBack
 pub mod Writing

@@ -1,8 +1,9 @@
 //! One line of an image's text.
 
-ghost use Rattle.std.specs.Prelude.{◌≡◌, ◌<◌, ◌≤◌, ◌∷◌, ℕ, List, length, Some, None, MatchOption, IfSome};
+ghost use Rattle.std.specs.Prelude.{◌≡◌, ◌<◌, ◌≤◌, [], ◌∷◌, ℕ, List, length, Some, None, MatchOption, IfSome};
 ghost use Rattle.std.specs.Option.{option_map, option_and_then};
 ghost use Rattle.mote_text.specs.ImageLines.{image_line, line_bytes, section_address, spaced_bytes};
+ghost use Rattle.mote_text.specs.Lines.{numeral};
 ghost use Rattle.mote_text.specs.Parsed.{line_of};
 
 use crate::lines::numeral;
@@ -32,6 +33,17 @@ fn section_address(digits: &[u8]) -> Option<u16>
     }
 }
 
+// The byte that two hexadecimal digits spell.
+fn byte_of(high: u8, low: u8) -> Option<u8>
+    ensures { result ≡ numeral 16 255 (high ∷ low ∷ []) }
+{
+    let mut byte = [0];
+    match hex::decode_to_slice([high, low], &mut byte) {
+        Ok(()) => Some(byte[0]),
+        Err(_) => None,
+    }
+}
+
 // The byte at the front, and the text behind it and its space.
 #[tactic(auto, unfolding(crate::specs::ImageLines::spaced_bytes))]
 fn front_byte(text: &[u8]) -> Option<(u8, &[u8])>
@@ -40,11 +52,10 @@ fn front_byte(text: &[u8]) -> Option<(u8, &[u8])>
         ≡ option_and_then (λ x. option_map (λ bs. x.0 ∷ bs) (spaced_bytes x.1.now)) result }
     ensures shorter { IfSome result (λ x. length x.1.now < length text.now) }
 {
-    if text.len() < 2 {
+    let [high, low, rest @ ..] = text else {
         return None;
-    }
-    let (digits, rest) = text.split_at(2);
-    let byte = numeral(digits, 16, 255)? as u8;
+    };
+    let byte = byte_of(*high, *low)?;
     match rest.split_first() {
         None => Some((byte, rest)),
         Some((b' ', behind)) => Some((byte, behind)),
