@@ -7,6 +7,7 @@ ghost use Rattle.nm_base.specs.Outside.{Writes};
 
 use crate::digits::upper_digit;
 use arrayvec::ArrayVec;
+use byteorder::{ByteOrder, LittleEndian};
 use msp_isa::Image;
 use nm_base::{Sink, WriteFault, write_all};
 
@@ -28,9 +29,12 @@ fn piece_of(k: usize, word: u16) -> Piece
     if k > 0 {
         piece.push(if k % 8 == 0 { b'\n' } else { b' ' });
     }
-    push_digits(&mut piece, (word % 256) as u8);
+    let mut bytes = [0; 2];
+    LittleEndian::write_u16(&mut bytes, word);
+    let [low, high] = bytes;
+    push_digits(&mut piece, low);
     piece.push(b' ');
-    push_digits(&mut piece, (word / 256) as u8);
+    push_digits(&mut piece, high);
     piece
 }
 

@@ -4,6 +4,7 @@ ghost use Rattle.std.specs.Prelude.{◌≡◌, IfOk, length};
 ghost use Rattle.msp_isa.specs.Image.{byte_of, bytes_map, image_map};
 
 use crate::Image;
+use byteorder::{ByteOrder, LittleEndian};
 use nm_base::NoMemory;
 use std::alloc::Global;
 use std::marker::Model;
@@ -70,9 +71,8 @@ fn image_byte(code: &[u16], vectors: &[u16; 16], address: u16) -> u8
 fn byte_of(word: u16, address: u16) -> u8
     ensures { result ≡ byte_of word address }
 {
-    if address % 2 == 0 {
-        (word % 256) as u8
-    } else {
-        (word / 256) as u8
-    }
+    let mut bytes = [0; 2];
+    LittleEndian::write_u16(&mut bytes, word);
+    let [low, high] = bytes;
+    if address % 2 == 0 { low } else { high }
 }
