@@ -5,3 +5,4 @@ pub mod State
 pub mod Form
 pub mod Reached
 pub mod Runs
+pub mod Rows

@@ -5,6 +5,7 @@ mod code;
 mod help;
 mod instr;
 mod machine;
+mod rows;
 mod state;
 
 pub use code::{Check, MidCode, MidFn};
@@ -12,4 +13,5 @@ pub use help::{FIRST_CHECK, HelpOp, help_number};
 pub use instr::{Mid, Op, Test};
 pub use machine::{open_start, open_step};
 pub use nm_base::Action;
+pub use rows::worked_rows;
 pub use state::{MidCall, MidState};
