@@ -1,12 +1,12 @@
 -- The well-formed program of the worked rows.
 use Rattle.std.specs.Prelude.{pos, true, slice_get}
-use Rattle.std.proofs.Common.{◌≡◌, ℕ, zero, suc, ◌<◌, ◌≤◌, length, get_or, [], ◌∷◌, arith, All, Some, None, refl, subst}
+use Rattle.std.proofs.Common.{◌≡◌, ℕ, take, zero, suc, ◌<◌, ◌≤◌, length, get_or, [], ◌∷◌, arith, All, Some, None, refl, subst}
 use Rattle.nm_base.specs.declared.int_type.IntType.TheVariants.{U8, I16, U16}
 use Rattle.nesc_core.specs.declared.tree.BinOp.TheVariants as op
 use Rattle.nesc_core.specs.Plain.{Field, Object, Body, Case, void, int, pointer, struct, read, local, bin, update}
 use Rattle.nesc_core.specs.Size.{NamesBelow, IsSmall, IsSized, struct_at}
 use Rattle.nesc_core.specs.Rows.{start}
-use Rattle.nesc_core.specs.Typing.{PointsWell, IsType, IsSome, IsTest, Has}
+use Rattle.nesc_core.specs.Typing.{PointsWell, IsType, IsScalar, IsSome, IsTest, Has}
 use Rattle.nesc_core.specs.Calls.{HasNoCycle, stmt_calls}
 use Rattle.nesc_core.specs.WellFormed.{IsStmt, by_return, in_loop, IsBody, IsRoot, IsWellFormed}
 use Rattle.nesc_core.specs.WellFormedRows.{number, same, boot, choosing, counting, good}
@@ -54,13 +54,19 @@ objects_are (suc (suc k)) d inside = absurd (omega arith)
 same_is : IsBody good same
 same_is = record {
   params = omega arith;
+  passed = scalars;
   locals = locals;
   result = int_is _;
+  given = tt;
   code = ((tt, (refl, tt, omega arith)), tt);
   frame = omega arith;
   heres = λ k d inside. absurd (omega arith);
 }
   where
+    scalars : All IsScalar (take 1 same.locals)
+    scalars zero d inside = tt
+    scalars (suc k) d inside = absurd (omega arith)
+
     locals : All (IsType good.structs) same.locals
     locals zero d inside = int_is _
     locals (suc k) d inside = absurd (omega arith)
@@ -68,8 +74,10 @@ same_is = record {
 boot_is : IsBody good boot
 boot_is = record {
   params = omega arith;
+  passed = λ k d inside. absurd (omega arith);
   locals = λ k d inside. absurd (omega arith);
   result = void_is;
+  given = tt;
   code = ((int U16, (refl, tt, omega arith, (refl, ((refl, refl), tt)))), ((int U8, (refl, omega arith)), tt));
   frame = omega arith;
   heres = λ k d inside. absurd (omega arith);
@@ -113,8 +121,10 @@ choosing_is = (
 counting_is : IsBody good counting
 counting_is = record {
   params = omega arith;
+  passed = λ k d inside. absurd (omega arith);
   locals = locals;
   result = void_is;
+  given = tt;
   code = (omega arith, ((test, step, choosing_is), tt));
   frame = omega arith;
   heres = λ k d inside. absurd (omega arith);

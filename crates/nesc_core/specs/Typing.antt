@@ -11,7 +11,7 @@ use Rattle.nesc_core.specs.declared.tree.BinOp.TheVariants.{Add, Sub, Mul, Div, 
 use Rattle.nesc_core.specs.Plain.{Ty, void, int, pointer, array, struct, Expr, Exprs, Place, Field, Body, Program, no_exprs, more_exprs}
 use Rattle.nesc_core.specs.Plain as plain
 use Rattle.nesc_core.specs.Size.{layout_of, IsSized}
-use Rattle.nesc_core.specs.PlaceTypes.{fields_of, type_of}
+use Rattle.nesc_core.specs.PlaceTypes.{fields_of, place_type}
 
 -- ---- types
 
@@ -28,13 +28,20 @@ pub record IsType (structs : List (List Field)) (t : Ty) : Type 0 where
   pub sized : IsSized structs t
   pub points : PointsWell structs t
 
--- C99, 6.2.5: a number or a pointer
+-- C99, 6.2.5: a number or a pointer; own: arguments and results are no structs
 abbrev pub IsScalar : Ty → Type 0
 IsScalar void = ⊥
 IsScalar (int t) = ⊤
 IsScalar (pointer t) = ⊤
 IsScalar (array t n) = ⊥
 IsScalar (struct k) = ⊥
+
+abbrev pub IsResult : Ty → Type 0
+IsResult void = ⊤
+IsResult (int t) = ⊤
+IsResult (pointer t) = ⊤
+IsResult (array t n) = ⊥
+IsResult (struct k) = ⊥
 
 abbrev pub IsArray : Ty → Type 0
 IsArray void = ⊥
@@ -182,16 +189,16 @@ module _ (p : Program) (types : List Ty) where
     IsPlace (plain.object k) = k < length p.objects
     IsPlace (plain.local x) = x < length types
     IsPlace (plain.deref e t) = PointsWell p.structs (pointer t) × Has e (pointer t)
-    IsPlace (plain.index place e) = IsArray (type_of p types place) × IsPlace place × IsNumber (Has e)
-    IsPlace (plain.field place k) = (k < length (fields_of p (type_of p types place))) × IsPlace place
+    IsPlace (plain.index place e) = IsArray (place_type p types place) × IsPlace place × IsNumber (Has e)
+    IsPlace (plain.field place k) = (k < length (fields_of p.structs (place_type p types place))) × IsPlace place
 
     -- the expression has this type
     pub Has : Expr → Ty → Type 0
     Has (plain.const t x) = λ ty. (ty ≡ int t) × IsOf t x
     Has plain.null = λ ty. IsPointer p.structs ty
-    Has (plain.read place at) = λ ty. (ty ≡ type_of p types place) × IsScalar ty × IsPlace place
+    Has (plain.read place at) = λ ty. (ty ≡ place_type p types place) × IsScalar ty × IsPlace place
     Has (plain.addr place) = λ ty.
-        (ty ≡ pointer (type_of p types place)) × PointsWell p.structs (pointer (type_of p types place)) × IsPlace place
+        (ty ≡ pointer (place_type p types place)) × PointsWell p.structs (pointer (place_type p types place)) × IsPlace place
     Has (plain.un op t e) = λ ty. (ty ≡ int (unary_type op t)) × IsOperand op t × Has e (int t)
     Has (plain.bin op t a b) = λ ty. (ty ≡ int (binary_type op t)) × IsPromoted t × Has a (int t) × IsSecond op t (Has b)
     Has (plain.convert t e) = λ ty. (ty ≡ int t) × IsSome (λ from. IsConverted t from × Has e from)
@@ -200,9 +207,9 @@ module _ (p : Program) (types : List Ty) where
     Has (plain.both a b) = λ ty. (ty ≡ int I16) × IsTest (Has a) × IsTest (Has b)
     Has (plain.either a b) = λ ty. (ty ≡ int I16) × IsTest (Has a) × IsTest (Has b)
     Has (plain.choice test a b) = λ ty. IsTest (Has test) × Has a ty × Has b ty
-    Has (plain.assign place e at) = λ ty. (ty ≡ type_of p types place) × IsScalar ty × IsPlace place × Has e ty
+    Has (plain.assign place e at) = λ ty. (ty ≡ place_type p types place) × IsScalar ty × IsPlace place × Has e ty
     Has (plain.update place op t e gives_old at) = λ ty.
-        (ty ≡ type_of p types place) × IsUpdated op t ty × IsPlace place × IsSecond op t (Has e)
+        (ty ≡ place_type p types place) × IsUpdated op t ty × IsPlace place × IsSecond op t (Has e)
     Has (plain.call f arguments at) = λ ty. IsCallable (slice_get p.bodies f) (AllHave arguments) ty
     Has (plain.post k) = λ ty. (ty ≡ int U8) × (k < length p.tasks)
     Has (plain.port_in port) = λ ty. (ty ≡ int U16) × IsPort port

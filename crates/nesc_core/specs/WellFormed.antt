@@ -3,7 +3,7 @@ use Rattle.std.specs.Prelude.{⊤, ◌≡◌, ◌≢◌, ℕ, suc, ◌+◌, ◌%
 use Rattle.std.specs.List.{All, AllPairs}
 use Rattle.nesc_core.specs.Plain.{Ty, void, Expr, Exprs, no_exprs, more_exprs, Stmt, eval, block, branch, loop, switch, break, continue, return, atomic, clear, here, Stmts, no_stmts, more_stmts, Field, Object, Body, Program}
 use Rattle.nesc_core.specs.Size.{layout_of, AreSized}
-use Rattle.nesc_core.specs.Typing.{PointsWell, IsType, IsScalar, IsSome, IsTest, IsNumber, Has, AllHave}
+use Rattle.nesc_core.specs.Typing.{PointsWell, IsType, IsScalar, IsResult, IsSome, IsTest, IsNumber, Has, AllHave}
 use Rattle.nesc_core.specs.Heres.{heres, IsAlone}
 use Rattle.nesc_core.specs.Weights.{objects_start, frame_weight}
 
@@ -79,8 +79,10 @@ greatest_frame = 10020
 
 pub record IsBody (p : Program) (b : Body) : Type 0 where
   pub params : b.params ≤ length b.locals
+  pub passed : All IsScalar (take b.params b.locals)
   pub locals : All (IsType p.structs) b.locals
   pub result : IsType p.structs b.result
+  pub given : IsResult b.result
   pub code : IsStmt p b.locals b.code (by_return b.result)
   pub frame : frame_weight p b ≤ greatest_frame
   pub heres : All (IsAlone b.code) (heres b.code [])
