@@ -1,5 +1,5 @@
 -- Where a field lies, by the fields before it; whether one of some runs has a part.
-use Rattle.std.proofs.Common.{◌≡◌, ℕ, ◌+◌, ◌*◌, ◌-◌, ◌/◌, ◌%◌, ◌<◌, ◌≤◌, ◌≢◌, Bool, true, false, List, [], ◌∷◌, length, map, get_or, take, fold, Option, Some, None, ap, sym, ◌∙◌, refl, arith}
+use Rattle.std.proofs.Common.{◌≡◌, ℕ, ◌+◌, ◌*◌, ◌-◌, ◌/◌, ◌%◌, ◌<◌, ◌≤◌, ◌≢◌, Bool, true, false, List, [], ◌∷◌, length, map, get_or, take, fold, Option, Some, ap, sym, ◌∙◌, refl, arith}
 use Rattle.std.specs.Prelude.{slice_get, ◌||◌, ◌&&◌, ◌==◌, nat_le, nat_lt, if◌then◌else◌}
 use Rattle.std.specs.Option.{option_map}
 use Rattle.std.specs.List.{list_any}
@@ -18,7 +18,7 @@ use Rattle.nesc_core.specs.Plain.{Field, struct}
 use Rattle.nesc_core.specs.View.{type_of, field_of, structs_of}
 use Rattle.nesc_core.specs.Size.{rounded, fields_layout, layout_of, struct_at}
 use Rattle.nesc_core.specs.PlaceTypes.{field_type, field_offset}
-use Rattle.nesc_core.specs.Parts.{Run, one_part, extended, with_part, runs, run_has}
+use Rattle.nesc_core.specs.Parts.{Run, one_part, with_part, runs, run_has}
 use Rattle.nesc_core.proofs.SizeLemmas.{fields_are, map-field_of}
 
 abbrev offset_at : (structs : List (List Field)) (k : ℕ) → List Field → ℕ

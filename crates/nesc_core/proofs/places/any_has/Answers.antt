@@ -1,4 +1,4 @@
-use Rattle.std.proofs.Common.{◌≡◌, ◌<◌, ◌∙◌, arith, ap, sym, map, length}
+use Rattle.std.proofs.Common.{◌∙◌, arith, ap, sym, map}
 use Rattle.std.proofs.Math.ListN as list
 use Rattle.std.proofs.lemmas.List.Folds.{list_any_at}
 use Rattle.nesc_core.specs.Parts.{run_of, run_has}

@@ -1,8 +1,8 @@
-use Rattle.std.proofs.Common.{◌≡◌, ◌∙◌, ap, sym, map}
+use Rattle.std.proofs.Common.{◌∙◌, ap, map}
 use Rattle.std.specs.List.{list_any}
-use Rattle.nesc_core.specs.Parts.{Run, parts, run_of, runs_of, run_has}
+use Rattle.nesc_core.specs.Parts.{parts, run_of, runs_of, run_has}
 use Rattle.nesc_core.specs.Size.{layout_of}
-use Rattle.nesc_core.specs.View.{type_of, structs_of, program_of}
+use Rattle.nesc_core.specs.View.{type_of, program_of}
 use Rattle.nesc_core.proofs.FieldLemmas.{runs_have}
 use Rattle.nesc_core.proofs.places.is_part.Goals as goal
 

@@ -1,4 +1,4 @@
-use Rattle.std.proofs.Common.{◌≡◌, ◌<◌, ◌≤◌, ◌+◌, ◌∙◌, arith, ap, length, refl, get_or, take, map, subst, sym}
+use Rattle.std.proofs.Common.{◌≡◌, ◌∙◌, arith, ap, get_or, take, map, subst, sym}
 use Rattle.nesc_core.specs.declared.tree.Field.{Field}
 use Rattle.nesc_core.specs.declared.layout.Layout.{Layout}
 use Rattle.nesc_core.specs.Size.{rounded, layout_of, fields_layout, IsSized}
