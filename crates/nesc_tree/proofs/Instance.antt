@@ -1,0 +1,145 @@
+-- The grammar keeps what forms have to keep.
+use Rattle.std.proofs.Common.{◌≡◌, ℕ, suc, Bool, true, false, List, Err, refl}
+use Rattle.nm_base.specs.declared.token.Token.{Token}
+use Rattle.nesc_tree.specs.declared.sorts.Sort.{Sort}
+use Rattle.nesc_tree.specs.declared.sorts.Sort.TheVariants as s
+use Rattle.nesc_tree.specs.Phrase.{Phrase, Of, begins, fits_one_level}
+use Rattle.nesc_tree.specs.Form.{Place, next, nullable, starts, SpellsIn}
+use Rattle.nesc_tree.specs.Sorts.{Names, ahead}
+use Rattle.nesc_tree.specs.Reading.{Fault, stop, rest_of, read, phrase, nests}
+use Rattle.nesc_tree.specs.Grammar.{production}
+use Rattle.nesc_tree.proofs.Fine.{Fine}
+use Rattle.nesc_tree.proofs.Checked.{checked, opened}
+use Rattle.nesc_tree.proofs.Open.{Open, stay, bars, Seed, seed, seed_of}
+use Rattle.nesc_tree.proofs.Some.{left_no}
+use Rattle.nesc_tree.proofs.Fresh.{fresh}
+use Rattle.nesc_tree.proofs.Entered.{leads}
+use Rattle.nesc_tree.proofs.Grown.{Grown, phrase_grown}
+use Rattle.std.specs.Prelude.{nat_lt}
+use Rattle.nesc_tree.proofs.Moved as moved
+use Rattle.nesc_tree.proofs.Told as told
+use Rattle.nesc_tree.proofs.Some as some
+use Rattle.nesc_tree.proofs.Levels as levels
+use Rattle.nesc_tree.proofs.Meets as meets
+use Rattle.nesc_tree.proofs.Sound as sound
+
+pub all_fine : (p : Phrase) → Fine (production p)
+all_fine (Phrase.expr least) = checked (production (Phrase.expr least)) refl
+all_fine Phrase.opened = checked (production Phrase.opened) refl
+
+full : (p : Phrase) → nullable (production p) ≡ false
+full (Phrase.expr least) = refl
+full Phrase.opened = refl
+
+table : (p : Phrase) (x : Sort) → begins p x ≡ starts (production p) x
+table (Phrase.expr least) s.End = refl
+table (Phrase.expr least) _ = refl
+table Phrase.opened s.End = refl
+table Phrase.opened _ = refl
+
+ends : (p : Phrase) → begins p s.End ≡ false
+ends (Phrase.expr least) = refl
+ends Phrase.opened = refl
+
+pub reads_spelled : (d : ℕ) (k : Phrase) (p : Place) → sound.Sound (λ a q. SpellsIn production d k p a q) (phrase production d k p)
+reads_spelled = sound.phrase_sound production all_fine table
+
+pub reads_beside : (n : ℕ) (ended : Bool) (d e : ℕ) (k : Phrase) (p q r : Place) (a : Of k) → meets.Near n ended p q → SpellsIn production e k q a r → meets.Meets n ended d e a r (phrase production d k p)
+reads_beside = meets.phrase_meets production all_fine full table ends
+
+all_open : (p : Phrase) → Open (production p)
+all_open (Phrase.expr least) = opened (production (Phrase.expr least)) refl
+all_open Phrase.opened = opened (production Phrase.opened) refl
+
+stays : (p : Phrase) (x : Sort) → stay p x ≡ false → bars (production p) x ≡ false
+stays (Phrase.expr least) s.Assign h = absurd cc
+stays (Phrase.expr least) s.OpAssign h = absurd cc
+stays (Phrase.expr least) s.Question h = absurd cc
+stays (Phrase.expr least) s.OrOr h = absurd cc
+stays (Phrase.expr least) s.AndAnd h = absurd cc
+stays (Phrase.expr least) s.Bar h = absurd cc
+stays (Phrase.expr least) s.Caret h = absurd cc
+stays (Phrase.expr least) s.Amp h = absurd cc
+stays (Phrase.expr least) s.Equality h = absurd cc
+stays (Phrase.expr least) s.Less h = absurd cc
+stays (Phrase.expr least) s.Greater h = absurd cc
+stays (Phrase.expr least) s.OrEqual h = absurd cc
+stays (Phrase.expr least) s.Shift h = absurd cc
+stays (Phrase.expr least) s.Plus h = absurd cc
+stays (Phrase.expr least) s.Minus h = absurd cc
+stays (Phrase.expr least) s.Star h = absurd cc
+stays (Phrase.expr least) s.Divide h = absurd cc
+stays (Phrase.expr least) s.LBracket h = absurd cc
+stays (Phrase.expr least) s.LParen h = absurd cc
+stays (Phrase.expr least) s.Dot h = absurd cc
+stays (Phrase.expr least) s.Arrow h = absurd cc
+stays (Phrase.expr least) s.Step h = absurd cc
+stays (Phrase.expr least) s.Comma h = rw h refl
+stays (Phrase.expr least) _ h = refl
+stays Phrase.opened s.Assign h = absurd cc
+stays Phrase.opened s.OpAssign h = absurd cc
+stays Phrase.opened s.Question h = absurd cc
+stays Phrase.opened s.OrOr h = absurd cc
+stays Phrase.opened s.AndAnd h = absurd cc
+stays Phrase.opened s.Bar h = absurd cc
+stays Phrase.opened s.Caret h = absurd cc
+stays Phrase.opened s.Amp h = absurd cc
+stays Phrase.opened s.Equality h = absurd cc
+stays Phrase.opened s.Less h = absurd cc
+stays Phrase.opened s.Greater h = absurd cc
+stays Phrase.opened s.OrEqual h = absurd cc
+stays Phrase.opened s.Shift h = absurd cc
+stays Phrase.opened s.Plus h = absurd cc
+stays Phrase.opened s.Minus h = absurd cc
+stays Phrase.opened s.Star h = absurd cc
+stays Phrase.opened s.Divide h = absurd cc
+stays Phrase.opened s.LBracket h = absurd cc
+stays Phrase.opened s.LParen h = absurd cc
+stays Phrase.opened s.Dot h = absurd cc
+stays Phrase.opened s.Arrow h = absurd cc
+stays Phrase.opened s.Step h = absurd cc
+stays Phrase.opened _ h = refl
+
+shallow : (p : Phrase) → fits_one_level p ≡ true → nests (production p) ≡ false
+shallow (Phrase.expr least) h = refl
+shallow Phrase.opened h = absurd cc
+
+seeded : (p : Phrase) → fits_one_level p ≡ true → seed false (production p) ≡ Seed.at (seed_of p)
+seeded (Phrase.expr least) h = refl
+seeded Phrase.opened h = absurd cc
+
+refused : (b : Bool) (ts : List Token) → rest_of (stop b ts) ≡ ts
+refused true ts = refl
+refused false ts = refl
+
+shut : (k : Phrase) → fits_one_level k ≡ false → (p : Place) → (e : Fault) × (read 0 (phrase production 0) (production k) p ≡ Err e) × (rest_of e ≡ p.rest)
+unfolding read phrase
+shut (Phrase.expr least) h p = absurd cc
+shut Phrase.opened h p = (stop (begins (Phrase.expr 0) (next p)) p.rest, refl, refused (begins (Phrase.expr 0) (next p)) p.rest)
+
+pub stops_told : (d : ℕ) (k : Phrase) (p : Place) → told.Told (SpellsIn production d k) (stay k) p (phrase production d k p)
+stops_told = levels.phrase_told production all_fine all_open full table ends stays shallow seeded shut fresh
+
+pub may_stand : (d : ℕ) (k : Phrase) (p q : Place) (a : Of k) → SpellsIn production d k p a q → (follow : List Token) → moved.Free (stay k) q follow → moved.Moved (SpellsIn production d k) false p q a follow
+may_stand = levels.phrase_moved production all_fine all_open full table ends stays shallow seeded shut fresh
+
+pub has_text : (d : ℕ) (k : Phrase) → fits_one_level k ≡ true → (ns : Names) (follow : some.Follow (Of k)) → ((a : Of k) (ms : Names) → stay k (ahead ms (follow a ms)) ≡ false) → (t : some.Text (SpellsIn production (suc d) k) ns follow) × (ahead ns t.us ≡ seed_of k)
+has_text = levels.phrase_some production all_fine all_open full table ends stays shallow seeded shut fresh
+
+-- a phrase is of a higher rank than those that a text of it may begin with
+rank : Phrase → ℕ
+rank (Phrase.expr least) = 0
+rank Phrase.opened = 1
+
+top : (k : Phrase) → nat_lt (rank k) 2 ≡ true
+unfolding rank
+top (Phrase.expr least) = refl
+top Phrase.opened = refl
+
+lower : (k : Phrase) → leads rank (rank k) (production k) ≡ true
+unfolding rank
+lower (Phrase.expr least) = refl
+lower Phrase.opened = refl
+
+pub grows : (d : ℕ) (k : Phrase) (p : Place) → Grown d (phrase production d k p) (λ e. phrase production e k p)
+grows = phrase_grown production all_fine full table rank 2 top lower

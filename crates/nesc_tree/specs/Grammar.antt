@@ -1,0 +1,508 @@
+-- The grammar: expressions of C99 6.5 with the calls of the nesC 1.3 Reference, and the types that stand in them.
+use Rattle.std.specs.Prelude.{◌≡◌, ℕ, suc, max, Bool, true, false, ◌&&◌, ◌||◌, if◌then◌else◌, nat_le, List, [], ◌∷◌, ◌++◌, Option, Some, None, codes, bytes_eq}
+use Rattle.nm_base.specs.declared.pos.Pos.{Pos}
+use Rattle.nm_base.specs.declared.token.Token.{Token}
+use Rattle.nm_base.specs.declared.token.Kind.TheVariants as kind
+use Rattle.nm_base.specs.declared.int_type.IntType.{IntType}
+use Rattle.nm_base.specs.declared.int_type.IntType.TheVariants as int
+use Rattle.nesc_tree.specs.declared.sorts.Sort.{Sort}
+use Rattle.nesc_tree.specs.declared.sorts.Sort.TheVariants as s
+use Rattle.nesc_tree.specs.declared.tree.PreOp.{PreOp}
+use Rattle.nesc_tree.specs.declared.tree.PreOp.TheVariants as pre
+use Rattle.nesc_tree.specs.declared.tree.PostOp.{PostOp}
+use Rattle.nesc_tree.specs.declared.tree.PostOp.TheVariants as post
+use Rattle.nesc_tree.specs.declared.tree.InOp.{InOp}
+use Rattle.nesc_tree.specs.declared.tree.InOp.TheVariants as op
+use Rattle.nesc_tree.specs.declared.tree.Expr.{Expr}
+use Rattle.nesc_tree.specs.declared.tree.Expr.TheVariants as e
+use Rattle.nesc_tree.specs.declared.tree.Base.{Base}
+use Rattle.nesc_tree.specs.declared.tree.Base.TheVariants as b
+use Rattle.nesc_tree.specs.declared.tree.TypeSpec.{TypeSpec}
+use Rattle.nesc_tree.specs.declared.operand.Operand.{Operand}
+use Rattle.nesc_tree.specs.declared.operand.Arguments.{Arguments}
+use Rattle.nesc_tree.specs.declared.operand.CastType.{CastType}
+use Rattle.nesc_tree.specs.declared.operand.Width.{Width}
+use Rattle.nesc_tree.specs.declared.operand.Width.TheVariants as w
+use Rattle.nesc_tree.specs.Level as level
+use Rattle.nesc_tree.specs.Phrase.{Phrase, Of, begins}
+use Rattle.nesc_tree.specs.Form.{Form}
+
+abbrev pub one : Sort → Form Token
+one x = Form.token x (λ t. t)
+
+abbrev pub map : {A B : Type 0} → (A → B) → Form A → Form B
+map f g = Form.seq {B = Unit {0}} (λ a _. f a) g (Form.empty tt)
+
+-- the value that the form's value gives for this one
+abbrev pub applied : {A B : Type 0} → A → Form (A → B) → Form B
+applied a g = map (λ f. f a) g
+
+abbrev pub expr : ℕ → Form Operand
+expr least = Form.sub (Phrase.expr least) (λ a. a)
+
+-- the value of the first, then that of the second
+abbrev pub behind : {A B : Type 0} → Form A → Form B → Form B
+behind g h = Form.seq (λ _ b. b) g h
+
+abbrev pub before : {A B : Type 0} → Form A → Form B → Form A
+before g h = Form.seq (λ a _. a) g h
+
+-- the value of the second is made with that of the first
+abbrev pub with : {A B : Type 0} → Form A → Form (A → B) → Form B
+with g h = Form.seq (λ a f. f a) g h
+
+-- a name, also where it is a type name
+abbrev pub name_of : Sort → Form Token
+name_of s.TypeName = one s.TypeName
+name_of _ = one s.Word
+
+abbrev pub name : Form Token
+name = Form.by name_of
+
+-- ---- operators by their spelling
+
+abbrev pub spelled : Token → List ℕ → Bool
+spelled t text = bytes_eq t.text text
+
+unfoldable pub infix_of : Token → InOp
+infix_of t =
+    if spelled t (codes "*") then op.Mul else (
+    if spelled t (codes "/") then op.Div else (
+    if spelled t (codes "%") then op.Rem else (
+    if spelled t (codes "+") then op.Add else (
+    if spelled t (codes "-") then op.Sub else (
+    if spelled t (codes "<<") then op.Shl else (
+    if spelled t (codes ">>") then op.Shr else (
+    if spelled t (codes "<") then op.Lt else (
+    if spelled t (codes ">") then op.Gt else (
+    if spelled t (codes "<=") then op.Le else (
+    if spelled t (codes ">=") then op.Ge else (
+    if spelled t (codes "==") then op.Eq else (
+    if spelled t (codes "!=") then op.Ne else (
+    if spelled t (codes "&") then op.And else (
+    if spelled t (codes "^") then op.Xor else (
+    if spelled t (codes "|") then op.Or else (
+    if spelled t (codes "&&") then op.AndAnd else op.OrOr))))))))))))))))
+
+-- the operator of an assignment; none is that of `=`
+unfoldable pub assignment_of : Token → Option InOp
+assignment_of t =
+    if spelled t (codes "=") then None else (
+    if spelled t (codes "*=") then Some op.Mul else (
+    if spelled t (codes "/=") then Some op.Div else (
+    if spelled t (codes "%=") then Some op.Rem else (
+    if spelled t (codes "+=") then Some op.Add else (
+    if spelled t (codes "-=") then Some op.Sub else (
+    if spelled t (codes "<<=") then Some op.Shl else (
+    if spelled t (codes ">>=") then Some op.Shr else (
+    if spelled t (codes "&=") then Some op.And else (
+    if spelled t (codes "^=") then Some op.Xor else Some op.Or)))))))))
+
+unfoldable pub prefix_of : Token → PreOp
+prefix_of t =
+    if spelled t (codes "++") then pre.Inc else (
+    if spelled t (codes "--") then pre.Dec else (
+    if spelled t (codes "&") then pre.Addr else (
+    if spelled t (codes "*") then pre.Deref else (
+    if spelled t (codes "+") then pre.Plus else (
+    if spelled t (codes "-") then pre.Neg else (
+    if spelled t (codes "~") then pre.Not else pre.IsZero))))))
+
+unfoldable pub suffix_of : Token → PostOp
+suffix_of t = if spelled t (codes "++") then post.Inc else post.Dec
+
+-- ---- types between parentheses (C99 6.7.2, 6.7.6)
+
+abbrev pub integer : Bool → Width → IntType
+integer true w.Char = int.U8
+integer true w.Short = int.U16
+integer true w.Long = int.U32
+integer false w.Char = int.I8
+integer false w.Short = int.I16
+integer false w.Long = int.I32
+
+unfoldable pub is_unsigned : Token → Bool
+is_unsigned t = spelled t (codes "unsigned")
+
+unfoldable pub is_const : Token → Bool
+is_const t = spelled t (codes "const")
+
+unfoldable pub length_of : Token → Width
+length_of t = if spelled t (codes "long") then w.Long else w.Short
+
+-- whether the token stands there; it tells nothing else
+abbrev pub optional : Sort → Form Bool
+optional x = Form.maybe (map (λ _. true) (one x)) false
+
+abbrev pub width_of : Sort → Form Width
+width_of s.CharType = map (λ _. w.Char) (one s.CharType)
+width_of s.Length = Form.seq (λ t _. length_of t) (one s.Length) (optional s.Int)
+width_of s.Int = map (λ _. w.Short) (one s.Int)
+width_of _ = Form.none
+
+abbrev pub signed_base : Form Base
+signed_base = Form.seq (λ t n. b.Int (integer (is_unsigned t) n)) (one s.Signedness) (Form.maybe (Form.by width_of) w.Short)
+
+abbrev pub plain_base : Sort → Form Base
+plain_base x = map (λ n. b.Int (integer false n)) (width_of x)
+
+-- a type by its first token; structs and enums by their tags alone
+abbrev pub base_of : Sort → Form Base
+base_of s.Void = map (λ _. b.Void) (one s.Void)
+base_of s.Signedness = signed_base
+base_of s.CharType = plain_base s.CharType
+base_of s.Length = plain_base s.Length
+base_of s.Int = plain_base s.Int
+base_of s.TypeName = map (λ t. b.Named t.text) (one s.TypeName)
+base_of s.Struct = Form.seq (λ _ t. b.Struct (Some t.text) None) (one s.Struct) name
+base_of s.Enum = Form.seq (λ _ t. b.Enum (Some t.text) None) (one s.Enum) name
+base_of _ = Form.none
+
+abbrev pub begins_type : Sort → Bool
+begins_type s.Qualifier = true
+begins_type s.Void = true
+begins_type s.Signedness = true
+begins_type s.CharType = true
+begins_type s.Length = true
+begins_type s.Int = true
+begins_type s.TypeName = true
+begins_type s.Struct = true
+begins_type s.Enum = true
+begins_type _ = false
+
+abbrev pub is_qualifier : Sort → Bool
+is_qualifier s.Qualifier = true
+is_qualifier _ = false
+
+-- whether `const` is among them
+abbrev pub qualifiers : Form Bool
+qualifiers = Form.many is_qualifier false (λ _. map (λ t so_far. so_far || is_const t) (one s.Qualifier))
+
+abbrev pub type_of : Bool → Base → Bool → CastType
+type_of first base second = record { ty = record { base = base; stars = 0; dims = []; is_const = first || second }; height = 0 }
+
+abbrev pub qualified : Form (Bool → CastType)
+qualified = Form.seq (λ base second first. type_of first base second) (Form.by base_of) qualifiers
+
+abbrev pub type_form : Form CastType
+type_form = with qualifiers qualified
+
+abbrev pub pointer : CastType → CastType
+pointer t = record { ty = record { base = t.ty.base; stars = suc t.ty.stars; dims = t.ty.dims; is_const = t.ty.is_const }; height = suc t.height }
+
+abbrev pub is_star : Sort → Bool
+is_star s.Star = true
+is_star _ = false
+
+-- a type and its stars, below the node that it stands in
+abbrev pub cast_type : Form CastType
+cast_type = Form.loop is_star (λ _ _. true) (λ t. suc t.height) type_form (λ _. map (λ _. pointer) (one s.Star))
+
+-- ---- expressions
+
+abbrev pub operand : Expr → Pos → ℕ → ℕ → Operand
+operand a from level height = record { expr = a; from = from; level = level; height = height }
+
+abbrev pub leaf_operand : Expr → Token → Operand
+leaf_operand a t = operand a t.pos level.postfix 1
+
+abbrev pub unary_operand : Token → Operand → Operand
+unary_operand o a = operand (e.Unary (prefix_of o) a.expr o.pos) o.pos level.unary (suc a.height)
+
+abbrev pub cast_operand : CastType → Operand → Token → Operand
+cast_operand t a o = operand (e.Cast t.ty a.expr o.pos) o.pos level.cast (suc (max t.height a.height))
+
+-- parentheses are a level and no node
+abbrev pub paren_operand : Operand → Token → Operand
+paren_operand a o = operand a.expr o.pos level.postfix (suc a.height)
+
+abbrev pub size_of_type : CastType → Token → Operand
+size_of_type t o = operand (e.SizeOfType t.ty o.pos) o.pos level.unary (suc t.height)
+
+abbrev pub size_of_expr : Operand → Token → Operand
+size_of_expr a o = operand (e.SizeOfExpr a.expr o.pos) o.pos level.unary (suc a.height)
+
+unfoldable pub unique_expr : Token → Token → Expr
+unique_expr o t = if spelled o (codes "unique") then e.Unique t.text o.pos else e.UniqueCount t.text o.pos
+
+unfoldable pub is_signal : Token → Bool
+is_signal t = spelled t (codes "signal")
+
+-- what makes a longer expression of the one before it: its level, the greatest height of its other parts, and the node
+pub record Growth : Type 0 where
+  pub level : ℕ
+  pub height : ℕ
+  pub node : Expr → Pos → Expr
+
+abbrev pub grown : Growth → Operand → Operand
+grown g a = operand (g.node a.expr a.from) a.from g.level (suc (max a.height g.height))
+
+abbrev pub growth : ℕ → ℕ → (Expr → Pos → Expr) → Growth
+growth level height node = record { level = level; height = height; node = node }
+
+-- ---- arguments
+
+abbrev pub single : Operand → Arguments
+single a = record { exprs = a.expr ∷ []; height = a.height }
+
+abbrev pub pushed : Operand → Arguments → Arguments
+pushed a l = record { exprs = l.exprs ++ (a.expr ∷ []); height = max l.height a.height }
+
+abbrev pub no_arguments : Arguments
+no_arguments = record { exprs = []; height = 0 }
+
+abbrev pub is_comma : Sort → Bool
+is_comma s.Comma = true
+is_comma _ = false
+
+abbrev pub some_arguments : Form Arguments
+some_arguments = Form.loop is_comma (λ _ _. true) (λ _. 0) (map single (expr level.assignment)) (λ _. map pushed (behind (one s.Comma) (expr level.assignment)))
+
+abbrev pub arguments_of : Sort → Form Arguments
+arguments_of s.RParen = map (λ _. no_arguments) (one s.RParen)
+arguments_of _ = before some_arguments (one s.RParen)
+
+abbrev pub arguments : Form Arguments
+arguments = behind (one s.LParen) (Form.by arguments_of)
+
+-- ---- primaries
+
+abbrev pub name_leaf : Form Operand
+name_leaf = map (λ t. leaf_operand (e.Name t.text t.pos) t) (one s.Word)
+
+abbrev pub number_leaf : Form Operand
+number_leaf = map (λ t. leaf_operand (e.Number t.text t.pos) t) (one s.Number)
+
+abbrev pub char_leaf : Form Operand
+char_leaf = map (λ t. leaf_operand (e.Char t.text t.pos) t) (one s.Char)
+
+abbrev pub null_leaf : Form Operand
+null_leaf = map (λ t. leaf_operand (e.Null t.pos) t) (one s.Null)
+
+abbrev pub unique : Form Operand
+unique = Form.seq (λ o t. leaf_operand (unique_expr o t) o) (one s.Unique) (behind (one s.LParen) (before (one s.Text) (one s.RParen)))
+
+abbrev pub post_call : Form Operand
+post_call = Form.seq (λ o t. leaf_operand (e.Post t.text o.pos) o) (one s.Post) (before name (behind (one s.LParen) (one s.RParen)))
+
+abbrev pub port_read : Form Operand
+port_read = Form.seq (λ o a. operand (e.PortRead a.expr o.pos) o.pos level.postfix (suc a.height)) (one s.PortRead) (behind (one s.LParen) (before (expr level.conditional) (one s.RParen)))
+
+abbrev pub port_and_value : Form (Token → Operand)
+port_and_value =
+    Form.seq (λ a v o. operand (e.PortWrite a.expr v.expr o.pos) o.pos level.postfix (suc (max a.height v.height))) (behind (one s.LParen) (before (expr level.conditional) (one s.Comma)))
+    (before (expr level.assignment) (one s.RParen))
+
+abbrev pub port_write : Form Operand
+port_write = with (one s.PortWrite) port_and_value
+
+-- the parameter of a call, and its height
+abbrev pub param_of : Option Operand → Option Expr
+param_of None = None
+param_of (Some a) = Some a.expr
+
+abbrev pub param_height : Option Operand → ℕ
+param_height None = 0
+param_height (Some a) = a.height
+
+abbrev pub call_operand : Option Operand → Arguments → Token → Token → Token → Operand
+call_operand p l i n o = operand (e.CallItem (is_signal o) n.text i.text (param_of p) l.exprs o.pos) o.pos level.postfix (suc (max (param_height p) l.height))
+
+abbrev pub param : Form (Option Operand)
+param = Form.maybe (map Some (behind (one s.LBracket) (before (expr level.assignment) (one s.RBracket)))) None
+
+abbrev pub call_arguments : Form (Token → Token → Token → Operand)
+call_arguments = Form.seq call_operand param arguments
+
+abbrev pub item_call : Form (Token → Token → Operand)
+item_call = with (behind (one s.Dot) name) call_arguments
+
+abbrev pub element_call : Form (Token → Operand)
+element_call = with name item_call
+
+abbrev pub call_item : Form Operand
+call_item = with (one s.Call) element_call
+
+abbrev pub signed : Sort → ℕ → Form Operand
+signed x least = Form.seq unary_operand (one x) (expr least)
+
+-- behind `(`
+abbrev pub cast : Form (Token → Operand)
+cast = Form.seq cast_operand cast_type (behind (one s.RParen) (expr level.cast))
+
+abbrev pub parens : Form (Token → Operand)
+parens = Form.seq (λ a _. paren_operand a) (expr level.comma) (one s.RParen)
+
+abbrev pub if_type : {A : Type 0} → Bool → Form A → Form A → Form A
+if_type true g h = g
+if_type false g h = h
+
+abbrev pub bracketed : Sort → Form (Token → Operand)
+bracketed x = if_type (begins_type x) cast parens
+
+abbrev pub bracketed_expr : Form Operand
+bracketed_expr = with (one s.LParen) (Form.by bracketed)
+
+-- behind `sizeof (`
+abbrev pub size_type : Form (Token → Token → Operand)
+size_type = Form.seq (λ t _ _. size_of_type t) cast_type (one s.RParen)
+
+abbrev pub size_opened : Form (Token → Token → Operand)
+size_opened = Form.sub Phrase.opened (λ f p. size_of_expr (f p))
+
+abbrev pub size_bracketed : Sort → Form (Token → Token → Operand)
+size_bracketed x = if_type (begins_type x) size_type size_opened
+
+abbrev pub sized : Sort → Form (Token → Operand)
+sized s.LParen = with (one s.LParen) (Form.by size_bracketed)
+sized _ = map size_of_expr (expr level.unary)
+
+abbrev pub size_of : Form Operand
+size_of = with (one s.SizeOf) (Form.by sized)
+
+abbrev pub primary : Sort → Form Operand
+primary s.Word = name_leaf
+primary s.Number = number_leaf
+primary s.Char = char_leaf
+primary s.Null = null_leaf
+primary s.LParen = bracketed_expr
+primary s.Plus = signed s.Plus level.cast
+primary s.Minus = signed s.Minus level.cast
+primary s.Star = signed s.Star level.cast
+primary s.Amp = signed s.Amp level.cast
+primary s.Complement = signed s.Complement level.cast
+primary s.Step = signed s.Step level.unary
+primary s.SizeOf = size_of
+primary s.Unique = unique
+primary s.PortRead = port_read
+primary s.PortWrite = port_write
+primary s.Post = post_call
+primary s.Call = call_item
+primary _ = Form.none
+
+-- ---- what goes on an expression
+
+-- the level of the expression that the token makes of what stands before it
+abbrev pub binds : Sort → ℕ
+binds s.Comma = level.comma
+binds s.Assign = level.assignment
+binds s.OpAssign = level.assignment
+binds s.Question = level.conditional
+binds s.OrOr = level.logical_or
+binds s.AndAnd = level.logical_and
+binds s.Bar = level.bit_or
+binds s.Caret = level.bit_xor
+binds s.Amp = level.bit_and
+binds s.Equality = level.equality
+binds s.Less = level.relational
+binds s.Greater = level.relational
+binds s.OrEqual = level.relational
+binds s.Shift = level.shift
+binds s.Plus = level.additive
+binds s.Minus = level.additive
+binds s.Star = level.multiplicative
+binds s.Divide = level.multiplicative
+binds _ = level.postfix
+
+-- the least level of the expression that the token goes on; operators of one level group from the left
+abbrev pub needs : Sort → ℕ
+needs s.Assign = level.unary
+needs s.OpAssign = level.unary
+needs s.Question = level.logical_or
+needs x = binds x
+
+abbrev pub binary : Sort → ℕ → Form Growth
+binary x n = Form.seq (λ o b. growth n b.height (λ a from. e.Binary (infix_of o) a b.expr from)) (one x) (expr (suc n))
+
+abbrev pub comma : Form Growth
+comma = Form.seq (λ _ b. growth level.comma b.height (λ a from. e.Comma a b.expr from)) (one s.Comma) (expr level.assignment)
+
+abbrev pub assign : Sort → Form Growth
+assign x = Form.seq (λ o b. growth level.assignment b.height (λ a from. e.Assign (assignment_of o) a b.expr from)) (one x) (expr level.assignment)
+
+abbrev pub choose : Form Growth
+choose =
+    Form.seq (λ b d. growth level.conditional (max b.height d.height) (λ a from. e.Cond a b.expr d.expr from)) (behind (one s.Question) (expr level.comma))
+    (behind (one s.Colon) (expr level.conditional))
+
+abbrev pub index : Form Growth
+index = behind (one s.LBracket) (Form.seq (λ b _. growth level.postfix b.height (λ a from. e.Index a b.expr from)) (expr level.comma) (one s.RBracket))
+
+abbrev pub call_function : Form Growth
+call_function = map (λ l. growth level.postfix l.height (λ a from. e.CallFn a l.exprs from)) arguments
+
+abbrev pub member : Form Growth
+member = Form.seq (λ _ t. growth level.postfix 0 (λ a from. e.Member a t.text from)) (one s.Dot) name
+
+abbrev pub arrow : Form Growth
+arrow = Form.seq (λ _ t. growth level.postfix 0 (λ a from. e.Arrow a t.text from)) (one s.Arrow) name
+
+abbrev pub step : Form Growth
+step = map (λ o. growth level.postfix 0 (λ a from. e.Postfix (suffix_of o) a from)) (one s.Step)
+
+abbrev pub operation : Sort → Form Growth
+operation s.Comma = comma
+operation s.Assign = assign s.Assign
+operation s.OpAssign = assign s.OpAssign
+operation s.Question = choose
+operation s.OrOr = binary s.OrOr level.logical_or
+operation s.AndAnd = binary s.AndAnd level.logical_and
+operation s.Bar = binary s.Bar level.bit_or
+operation s.Caret = binary s.Caret level.bit_xor
+operation s.Amp = binary s.Amp level.bit_and
+operation s.Equality = binary s.Equality level.equality
+operation s.Less = binary s.Less level.relational
+operation s.Greater = binary s.Greater level.relational
+operation s.OrEqual = binary s.OrEqual level.relational
+operation s.Shift = binary s.Shift level.shift
+operation s.Plus = binary s.Plus level.additive
+operation s.Minus = binary s.Minus level.additive
+operation s.Star = binary s.Star level.multiplicative
+operation s.Divide = binary s.Divide level.multiplicative
+operation s.LBracket = index
+operation s.LParen = call_function
+operation s.Dot = member
+operation s.Arrow = arrow
+operation s.Step = step
+operation _ = Form.none
+
+-- operators and postfixes; a comma only in an expression of the lowest level
+abbrev pub is_operator : Sort → Bool
+is_operator s.Assign = true
+is_operator s.OpAssign = true
+is_operator s.Question = true
+is_operator s.OrOr = true
+is_operator s.AndAnd = true
+is_operator s.Bar = true
+is_operator s.Caret = true
+is_operator s.Amp = true
+is_operator s.Equality = true
+is_operator s.Less = true
+is_operator s.Greater = true
+is_operator s.OrEqual = true
+is_operator s.Shift = true
+is_operator s.Plus = true
+is_operator s.Minus = true
+is_operator s.Star = true
+is_operator s.Divide = true
+is_operator s.LBracket = true
+is_operator s.LParen = true
+is_operator s.Dot = true
+is_operator s.Arrow = true
+is_operator s.Step = true
+is_operator s.Comma = true
+is_operator _ = false
+
+abbrev pub may : ℕ → Sort → Bool
+may least o = is_operator o && nat_le least (binds o)
+
+abbrev pub fits : Operand → Sort → Bool
+fits left o = nat_le (needs o) left.level
+
+-- level and height of what is opened do not depend on where it starts
+abbrev pub somewhere : Token
+somewhere = record { kind = kind.Sign; text = codes "("; pos = record { file = 0; line = 1; col = 1 }; first = false }
+
+abbrev pub production : (p : Phrase) → Form (Of p)
+production (Phrase.expr least) = Form.loop (may least) fits (λ a. a.height) (Form.by primary) (λ x. map grown (operation x))
+production Phrase.opened = Form.loop (may level.postfix) (λ f. fits (f somewhere)) (λ f. (f somewhere).height) parens (λ x. map (λ g f o. grown g (f o)) (operation x))

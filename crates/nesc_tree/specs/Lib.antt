@@ -1,0 +1,9 @@
+pub mod Bindings
+pub mod Form
+pub mod Grammar
+pub mod Laws
+pub mod Level
+pub mod Phrase
+pub mod Reach
+pub mod Reading
+pub mod Sorts

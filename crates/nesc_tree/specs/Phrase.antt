@@ -1,0 +1,48 @@
+-- What nests in itself.
+use Rattle.std.specs.Prelude.{ℕ, Bool, true, false}
+use Rattle.nm_base.specs.declared.token.Token.{Token}
+use Rattle.nesc_tree.specs.declared.sorts.Sort.{Sort}
+use Rattle.nesc_tree.specs.declared.sorts.Sort.TheVariants as s
+use Rattle.nesc_tree.specs.declared.operand.Operand.{Operand}
+
+pub data Phrase : Type 0 where
+  -- an expression of at least this level
+  expr : ℕ → Phrase
+  -- a postfix expression behind the `(` that it begins with
+  opened : Phrase
+
+-- an opened expression starts at its `(`
+abbrev pub Of : Phrase → Type 0
+Of (Phrase.expr least) = Operand
+Of Phrase.opened = Token → Operand
+
+-- whether some text has one level; an opened expression has at least two
+abbrev pub fits_one_level : Phrase → Bool
+fits_one_level (Phrase.expr least) = true
+fits_one_level Phrase.opened = false
+
+-- whether an expression begins with a token of this sort
+abbrev pub begins_expr : Sort → Bool
+begins_expr s.Word = true
+begins_expr s.Number = true
+begins_expr s.Char = true
+begins_expr s.LParen = true
+begins_expr s.Plus = true
+begins_expr s.Minus = true
+begins_expr s.Star = true
+begins_expr s.Amp = true
+begins_expr s.Complement = true
+begins_expr s.Step = true
+begins_expr s.SizeOf = true
+begins_expr s.Null = true
+begins_expr s.Unique = true
+begins_expr s.PortRead = true
+begins_expr s.PortWrite = true
+begins_expr s.Post = true
+begins_expr s.Call = true
+begins_expr _ = false
+
+-- whether a text of the phrase begins with a token of this sort
+abbrev pub begins : Phrase → Sort → Bool
+begins (Phrase.expr least) x = begins_expr x
+begins Phrase.opened x = begins_expr x
