@@ -18,3 +18,4 @@ pub mod Entered
 pub mod Grown
 pub mod Tags
 pub mod Held
+pub mod RowLemmas

@@ -6,4 +6,5 @@ pub mod Level
 pub mod Phrase
 pub mod Reach
 pub mod Reading
+pub mod Rows
 pub mod Sorts

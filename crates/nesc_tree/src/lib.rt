@@ -7,6 +7,7 @@ mod laws;
 pub mod level;
 mod names;
 mod operand;
+mod rows;
 mod sorts;
 mod tree;
 
@@ -18,5 +19,6 @@ pub use declarations::{Attr, AttrArg, Decl, FuncHead, FuncKind, Init, Stmt};
 pub use laws::{number_tells, one_tree, reads_the_reach};
 pub use names::TypeNames;
 pub use operand::{Arguments, CastType, Operand, Width};
+pub use rows::worked_rows;
 pub use sorts::{Sort, ahead, same_sort, sort_of};
 pub use tree::{Base, EnumItem, Expr, InOp, Param, PostOp, PreOp, TypeSpec};
