@@ -9,6 +9,8 @@ mod names;
 mod operand;
 mod rows;
 mod sorts;
+#[cfg(test)]
+mod tests;
 mod tree;
 
 pub use components::{
