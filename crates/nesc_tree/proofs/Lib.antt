@@ -19,3 +19,4 @@ pub mod Grown
 pub mod Tags
 pub mod Held
 pub mod RowLemmas
+pub mod Plain

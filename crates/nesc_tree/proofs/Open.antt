@@ -7,34 +7,7 @@ use Rattle.nesc_tree.specs.Sorts.{same_sort, sorts}
 use Rattle.nesc_tree.specs.Phrase.{Phrase, fits_one_level}
 use Rattle.nesc_tree.specs.Form.{Form, nullable, starts, either}
 use Rattle.nesc_tree.specs.Reading.{nests}
-use Rattle.nesc_tree.specs.Grammar.{is_operator}
-
-abbrev pub any_of : (Sort → Bool) → List Sort → Bool
-any_of f [] = false
-any_of f (x ∷ xs) = either (f x) (any_of f xs)
-
-abbrev pub stay_expr : ℕ → Sort → Bool
-stay_expr least s.Comma = nat_le least 0
-stay_expr least x = is_operator x
-
--- tokens that a text of the phrase would go on with
-abbrev pub stay : Phrase → Sort → Bool
-stay (Phrase.expr least) x = stay_expr least x
-stay Phrase.opened x = stay_expr 1 x
-
--- tokens that a text of the form would go on with
-abbrev pub bars : {A : Type 0} → Form A → Sort → Bool
-bars (Form.empty a) y = false
-bars Form.none y = false
-bars (Form.token x f) y = false
-bars (Form.seq f g h) y = either (bars h y) (nullable h && bars g y)
-bars (Form.by f) y = any_of (λ x. bars (f x) y) sorts
-bars (Form.sub p f) y = stay p y
-bars (Form.maybe g a) y = either (starts g y) (bars g y)
-bars (Form.many go a body) y = either (go y) (any_of (λ x. bars (body x) y) sorts)
-bars (Form.loop may fits weight g body) y = either (may y) (either (bars g y) (any_of (λ x. bars (body x) y) sorts))
-bars (Form.declare f g) y = bars g y
-bars (Form.scope g) y = bars g y
+pub use Rattle.nesc_tree.specs.Choices.{any_of, stay_expr, stay, bars}
 
 pub data Seed : Type 0 where
   dead : Seed

@@ -9,7 +9,7 @@ use Rattle.nesc_tree.specs.Form.{Place, SpellsIn}
 use Rattle.nesc_tree.specs.Reading.{Fault, Syntax, Deep, Answer, phrase, rest_of}
 use Rattle.nesc_tree.specs.Grammar.{production}
 use Rattle.nesc_tree.specs.Reach.{SpelledIn, Spelled, BeginsIn, Begins, IsReach}
-use Rattle.nesc_tree.specs.Laws.{left_by, Reached, ReadsTheReach, OneTree, NumberTells, number}
+use Rattle.nesc_tree.specs.Laws.{left_by, Reached, ReadsTheReach, OneTree, ProbeTells}
 use Rattle.nesc_tree.proofs.Open.{stay}
 use Rattle.nesc_tree.proofs.Some.{with}
 use Rattle.nesc_tree.proofs.Moved.{Cut, Free}
@@ -194,11 +194,21 @@ no_more d k names before (Ok x) t ts h e w b = h.0.longest t ts e (shorten k nam
 no_more d k names before (Err (Syntax rest)) t ts h e w b = h.0.longest t ts e (shorten k names (before ++ (t ∷ [])) ts (subst (Begins k names) (sym (append_assoc before (t ∷ []) ts)) b))
 no_more d k names before (Err (Deep rest)) t ts h e w b = w rest refl
 
-pub number_tells : NumberTells
-number_tells d k one names before =
-    let all : List Token = before ++ (number ∷ []) in
+deep_more : (d : ℕ) (k : Phrase) (names : Names) (before : List Token) (x : Answer (Of k)) (t : Token) → Reached d k names before x → x ≡ Err (Deep (t ∷ [])) → Begins k names (before ++ (t ∷ []))
+deep_more d k names before (Ok x) t h e = absurd cc
+deep_more d k names before (Err (Syntax rest)) t h e = absurd cc
+deep_more d k names before (Err (Deep rest)) t h e =
+    let z : rest ≡ t ∷ [] = cc in
+    let w : rest ≡ h.first ∷ h.others = h.is in
+    let y : h.first ≡ t = cc in
+    subst (λ (u : Token). Begins k names (before ++ (u ∷ []))) y h.goes_on
+
+pub probe_tells : ProbeTells
+probe_tells probe d k one names before =
+    let all : List Token = before ++ (probe ∷ []) in
     let x : Answer (Of k) = phrase production (suc d) k (with names all) in
     let r = reach d k one names all in (
       (λ e. subst (Begins k names) (sym (r.1 ∙ (ap (λ (us : List Token). r.0 ++ us) e ∙ append-nil r.0))) (begins_of (suc d) k names r.0 x r.2)),
+      (λ e. subst (Begins k names) (sym (r.1 ∙ ap (λ (y : Answer (Of k)). r.0 ++ left_by y) e)) (deep_more (suc d) k names r.0 x probe r.2 e)),
       (λ t ts e w b. no_more (suc d) k names r.0 x t ts r.2 e w (subst (Begins k names) (r.1 ∙ ap (λ (us : List Token). r.0 ++ us) e) b)),
     )

@@ -1,8 +1,9 @@
 -- What is proved of the grammar and of reading by it.
-use Rattle.std.specs.Prelude.{◌≡◌, ℕ, suc, List, [], ◌∷◌, ◌++◌, Ok, Err, codes, true, false}
+use Rattle.std.specs.Prelude.{◌≡◌, ℕ, suc, List, [], ◌∷◌, ◌++◌, Ok, Err, true, false}
 use Rattle.nm_base.specs.declared.token.Token.{Token}
-use Rattle.nm_base.specs.declared.token.Kind.TheVariants as kind
+use Rattle.nesc_tree.specs.declared.sorts.Sort.{Sort}
 use Rattle.nesc_tree.specs.Sorts.{Names}
+use Rattle.nesc_tree.specs.Choices.{decides}
 use Rattle.nesc_tree.specs.Phrase.{Phrase, Of, fits_one_level}
 use Rattle.nesc_tree.specs.Reading.{Syntax, Deep, Answer, phrase, rest_of}
 use Rattle.nesc_tree.specs.Grammar.{production}
@@ -28,11 +29,13 @@ ReadsTheReach = (d : ℕ) (k : Phrase) → fits_one_level k ≡ true → (names 
 abbrev pub OneTree : Type 0
 OneTree = (k : Phrase) (names : Names) (ts : List Token) (a b : Of k) → Spelled k names a ts → Spelled k names b ts → a ≡ b
 
-abbrev pub number : Token
-number = record { kind = kind.Number; text = codes "0"; pos = record { file = 0; line = 1; col = 1 }; first = false }
+-- reading once more, with a probe behind what was read, tells whether this token could stand there, however deep
+abbrev pub ProbeTells : Type 0
+ProbeTells = (probe : Token) (d : ℕ) (k : Phrase) → fits_one_level k ≡ true → (names : Names) (before : List Token)
+    → (left_by (answer (suc d) k names (before ++ (probe ∷ []))) ≡ [] → Begins k names (before ++ (probe ∷ [])))
+    × (answer (suc d) k names (before ++ (probe ∷ [])) ≡ Err (Deep (probe ∷ [])) → Begins k names (before ++ (probe ∷ [])))
+    × ((t : Token) (ts : List Token) → left_by (answer (suc d) k names (before ++ (probe ∷ []))) ≡ t ∷ ts → ((us : List Token) → answer (suc d) k names (before ++ (probe ∷ [])) ≡ Err (Deep us) → ⊥) → Begins k names (before ++ (probe ∷ [])) → ⊥)
 
--- reading once more, with a number behind what was read, tells whether a number could stand there
-abbrev pub NumberTells : Type 0
-NumberTells = (d : ℕ) (k : Phrase) → fits_one_level k ≡ true → (names : Names) (before : List Token)
-    → (left_by (answer (suc d) k names (before ++ (number ∷ []))) ≡ [] → Begins k names (before ++ (number ∷ [])))
-    × ((t : Token) (ts : List Token) → left_by (answer (suc d) k names (before ++ (number ∷ []))) ≡ t ∷ ts → ((us : List Token) → answer (suc d) k names (before ++ (number ∷ [])) ≡ Err (Deep us) → ⊥) → Begins k names (before ++ (number ∷ [])) → ⊥)
+-- in no expression does the longest reading choose between two texts
+abbrev pub LongestChoosesNothing : Type 0
+LongestChoosesNothing = (k : Phrase) (y : Sort) → decides (production k) y ≡ false

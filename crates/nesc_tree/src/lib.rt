@@ -18,7 +18,7 @@ pub use components::{
     WireEnd,
 };
 pub use declarations::{Attr, AttrArg, Decl, FuncHead, FuncKind, Init, Stmt};
-pub use laws::{number_tells, one_tree, reads_the_reach};
+pub use laws::{longest_chooses_nothing, one_tree, probe_tells, reads_the_reach};
 pub use names::TypeNames;
 pub use operand::{Arguments, CastType, Operand, Width};
 pub use rows::worked_rows;
