@@ -26,20 +26,30 @@ use Rattle.nesc_tree.proofs.Sound as sound
 pub all_fine : (p : Phrase) → Fine (production p)
 all_fine (Phrase.expr least) = checked (production (Phrase.expr least)) refl
 all_fine Phrase.opened = checked (production Phrase.opened) refl
+all_fine Phrase.fields = checked (production Phrase.fields) refl
+all_fine Phrase.pointers = checked (production Phrase.pointers) refl
 
 full : (p : Phrase) → nullable (production p) ≡ false
 full (Phrase.expr least) = refl
 full Phrase.opened = refl
+full Phrase.fields = refl
+full Phrase.pointers = refl
 
 table : (p : Phrase) (x : Sort) → begins p x ≡ starts (production p) x
 table (Phrase.expr least) s.End = refl
 table (Phrase.expr least) _ = refl
 table Phrase.opened s.End = refl
 table Phrase.opened _ = refl
+table Phrase.fields s.LBrace = refl
+table Phrase.fields _ = refl
+table Phrase.pointers s.Star = refl
+table Phrase.pointers _ = refl
 
 ends : (p : Phrase) → begins p s.End ≡ false
 ends (Phrase.expr least) = refl
 ends Phrase.opened = refl
+ends Phrase.fields = refl
+ends Phrase.pointers = refl
 
 pub reads_spelled : (d : ℕ) (k : Phrase) (p : Place) → sound.Sound (λ a q. SpellsIn production d k p a q) (phrase production d k p)
 reads_spelled = sound.phrase_sound production all_fine table
@@ -50,6 +60,8 @@ reads_beside = meets.phrase_meets production all_fine full table ends
 all_open : (p : Phrase) → Open (production p)
 all_open (Phrase.expr least) = opened (production (Phrase.expr least)) refl
 all_open Phrase.opened = opened (production Phrase.opened) refl
+all_open Phrase.fields = opened (production Phrase.fields) refl
+all_open Phrase.pointers = opened (production Phrase.pointers) refl
 
 stays : (p : Phrase) (x : Sort) → stay p x ≡ false → bars (production p) x ≡ false
 stays (Phrase.expr least) s.Assign h = absurd cc
@@ -99,14 +111,22 @@ stays Phrase.opened s.Dot h = absurd cc
 stays Phrase.opened s.Arrow h = absurd cc
 stays Phrase.opened s.Step h = absurd cc
 stays Phrase.opened _ h = refl
+stays Phrase.fields s.End h = refl
+stays Phrase.fields _ h = refl
+stays Phrase.pointers s.Star h = absurd cc
+stays Phrase.pointers _ h = refl
 
 shallow : (p : Phrase) → fits_one_level p ≡ true → nests (production p) ≡ false
 shallow (Phrase.expr least) h = refl
 shallow Phrase.opened h = absurd cc
+shallow Phrase.fields h = refl
+shallow Phrase.pointers h = refl
 
 seeded : (p : Phrase) → fits_one_level p ≡ true → seed false (production p) ≡ Seed.at (seed_of p)
 seeded (Phrase.expr least) h = refl
 seeded Phrase.opened h = absurd cc
+seeded Phrase.fields h = refl
+seeded Phrase.pointers h = refl
 
 refused : (b : Bool) (ts : List Token) → rest_of (stop b ts) ≡ ts
 refused true ts = refl
@@ -115,6 +135,8 @@ refused false ts = refl
 shut : (k : Phrase) → fits_one_level k ≡ false → (p : Place) → (e : Fault) × (read 0 (phrase production 0) (production k) p ≡ Err e) × (rest_of e ≡ p.rest)
 unfolding read phrase
 shut (Phrase.expr least) h p = absurd cc
+shut Phrase.fields h p = absurd cc
+shut Phrase.pointers h p = absurd cc
 shut Phrase.opened h p = (stop (begins (Phrase.expr 0) (next p)) p.rest, refl, refused (begins (Phrase.expr 0) (next p)) p.rest)
 
 pub stops_told : (d : ℕ) (k : Phrase) (p : Place) → told.Told (SpellsIn production d k) (stay k) p (phrase production d k p)
@@ -130,16 +152,22 @@ has_text = levels.phrase_some production all_fine all_open full table ends stays
 rank : Phrase → ℕ
 rank (Phrase.expr least) = 0
 rank Phrase.opened = 1
+rank Phrase.fields = 0
+rank Phrase.pointers = 0
 
 top : (k : Phrase) → nat_lt (rank k) 2 ≡ true
 unfolding rank
 top (Phrase.expr least) = refl
 top Phrase.opened = refl
+top Phrase.fields = refl
+top Phrase.pointers = refl
 
 lower : (k : Phrase) → leads rank (rank k) (production k) ≡ true
 unfolding rank
 lower (Phrase.expr least) = refl
 lower Phrase.opened = refl
+lower Phrase.fields = refl
+lower Phrase.pointers = refl
 
 pub grows : (d : ℕ) (k : Phrase) (p : Place) → Grown d (phrase production d k p) (λ e. phrase production e k p)
 grows = phrase_grown production all_fine full table rank 2 top lower

@@ -45,6 +45,8 @@ made _ = true
 abbrev pub seed_of : Phrase → Sort
 seed_of (Phrase.expr least) = s.Word
 seed_of Phrase.opened = s.Word
+seed_of Phrase.fields = s.LBrace
+seed_of Phrase.pointers = s.Star
 
 -- how the shortest text begins, with phrases in it or without
 abbrev pub seed : Bool → {A : Type 0} → Form A → Seed

@@ -9,3 +9,7 @@ nothing_chosen (Phrase.expr least) s.End = refl
 nothing_chosen (Phrase.expr least) _ = refl
 nothing_chosen Phrase.opened s.End = refl
 nothing_chosen Phrase.opened _ = refl
+nothing_chosen Phrase.fields s.End = refl
+nothing_chosen Phrase.fields _ = refl
+nothing_chosen Phrase.pointers s.End = refl
+nothing_chosen Phrase.pointers _ = refl

@@ -69,6 +69,8 @@ module _ (d : ℕ) (k : Phrase) (names : Names) where
 nothing : (k : Phrase) → stay k s.End ≡ false
 nothing (Phrase.expr least) = refl
 nothing Phrase.opened = refl
+nothing Phrase.fields = refl
+nothing Phrase.pointers = refl
 
 module _ (d : ℕ) (k : Phrase) (one : fits_one_level k ≡ true) (names : Names) (ts : List Token) where
   abbrev answer : Answer (Of k)

@@ -17,6 +17,8 @@ rows = record {
   cast = refl;
   no_cast = refl;
   cast_to_pointer = refl;
+  size_of_struct = refl;
+  size_of_enum = refl;
   size_of_type = refl;
   size_of_element = refl;
   size_of_expression = refl;
@@ -28,5 +30,6 @@ rows = record {
   torn = refl;
   ended = refl;
   three_levels = refl;
+  star_is_a_level = refl;
   two_are_too_few = refl;
 }

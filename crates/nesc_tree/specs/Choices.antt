@@ -3,7 +3,7 @@ use Rattle.std.specs.Prelude.{ℕ, Bool, true, false, ◌&&◌, nat_le, List, []
 use Rattle.nesc_tree.specs.declared.sorts.Sort.{Sort}
 use Rattle.nesc_tree.specs.declared.sorts.Sort.TheVariants as s
 use Rattle.nesc_tree.specs.Sorts.{sorts}
-use Rattle.nesc_tree.specs.Phrase.{Phrase}
+use Rattle.nesc_tree.specs.Phrase.{Phrase, begins}
 use Rattle.nesc_tree.specs.Form.{Form, nullable, starts, either}
 use Rattle.nesc_tree.specs.Grammar.{is_operator}
 
@@ -19,6 +19,8 @@ stay_expr least x = is_operator x
 abbrev pub stay : Phrase → Sort → Bool
 stay (Phrase.expr least) x = stay_expr least x
 stay Phrase.opened x = stay_expr 1 x
+stay Phrase.fields x = false
+stay Phrase.pointers x = begins Phrase.pointers x
 
 -- tokens that a text of the form would go on with
 abbrev pub bars : {A : Type 0} → Form A → Sort → Bool

@@ -21,6 +21,9 @@ use Rattle.nesc_tree.specs.declared.tree.TypeSpec.{TypeSpec}
 use Rattle.nesc_tree.specs.declared.operand.Operand.{Operand}
 use Rattle.nesc_tree.specs.declared.operand.Arguments.{Arguments}
 use Rattle.nesc_tree.specs.declared.operand.CastType.{CastType}
+use Rattle.nesc_tree.specs.declared.operand.Fields.{Fields}
+use Rattle.nesc_tree.specs.declared.tree.Param.{Param}
+use Rattle.nesc_tree.specs.declared.tree.EnumItem.{EnumItem}
 use Rattle.nesc_tree.specs.declared.operand.Width.{Width}
 use Rattle.nesc_tree.specs.declared.operand.Width.TheVariants as w
 use Rattle.nesc_tree.specs.Level as level
@@ -140,22 +143,90 @@ width_of s.Length = Form.seq (λ t _. length_of t) (one s.Length) (optional s.In
 width_of s.Int = map (λ _. w.Short) (one s.Int)
 width_of _ = Form.none
 
-abbrev pub signed_base : Form Base
-signed_base = Form.seq (λ t n. b.Int (integer (is_unsigned t) n)) (one s.Signedness) (Form.maybe (Form.by width_of) w.Short)
+-- a base with the height of the definition in it
+abbrev pub plain : Base → ℕ → CastType
+plain base height = record { ty = record { base = base; stars = 0; dims = []; is_const = false }; height = height }
 
-abbrev pub plain_base : Sort → Form Base
-plain_base x = map (λ n. b.Int (integer false n)) (width_of x)
+abbrev pub signed_base : Form CastType
+signed_base = Form.seq (λ t n. plain (b.Int (integer (is_unsigned t) n)) 0) (one s.Signedness) (Form.maybe (Form.by width_of) w.Short)
 
--- a type by its first token; structs and enums by their tags alone
-abbrev pub base_of : Sort → Form Base
-base_of s.Void = map (λ _. b.Void) (one s.Void)
+abbrev pub plain_base : Sort → Form CastType
+plain_base x = map (λ n. plain (b.Int (integer false n)) 0) (width_of x)
+
+abbrev pub fields : Form Fields
+fields = Form.sub Phrase.fields (λ f. f)
+
+abbrev pub struct_type : Option (List ℕ) → Option Fields → CastType
+struct_type tag None = plain (b.Struct tag None) 0
+struct_type tag (Some f) = plain (b.Struct tag (Some f.params)) f.height
+
+abbrev pub tagged_struct : Form CastType
+tagged_struct = Form.seq (λ t f. struct_type (Some t.text) f) name (Form.maybe (map Some fields) None)
+
+-- behind `struct`
+abbrev pub struct_of : Sort → Form CastType
+struct_of s.LBrace = map (λ f. struct_type None (Some f)) fields
+struct_of _ = tagged_struct
+
+-- the constants of an enum, their greatest height, and whether a comma is behind the last one
+pub record Items : Type 0 where
+  pub items : List EnumItem
+  pub height : ℕ
+  pub ended : Bool
+
+abbrev pub value_of : Option Operand → Option Expr
+value_of None = None
+value_of (Some a) = Some a.expr
+
+abbrev pub height_of : Option Operand → ℕ
+height_of None = 0
+height_of (Some a) = a.height
+
+abbrev pub first_item : Token → Option Operand → Items
+first_item t v = record { items = record { name = t.text; value = value_of v; pos = t.pos } ∷ []; height = height_of v; ended = false }
+
+abbrev pub item : Form Items
+item = Form.seq first_item name (Form.maybe (map Some (behind (one s.Assign) (expr level.conditional))) None)
+
+abbrev pub more_items : Option Items → Items → Items
+more_items None l = record { items = l.items; height = l.height; ended = true }
+more_items (Some m) l = record { items = l.items ++ m.items; height = max l.height m.height; ended = false }
+
+abbrev pub is_comma : Sort → Bool
+is_comma s.Comma = true
+is_comma _ = false
+
+abbrev pub not_ended : Items → Sort → Bool
+not_ended l x = if l.ended then false else true
+
+abbrev pub items : Form Items
+items = Form.loop is_comma not_ended (λ _. 0) item (λ _. map more_items (behind (one s.Comma) (Form.maybe (map Some item) None)))
+
+abbrev pub braced_items : Form Items
+braced_items = behind (one s.LBrace) (before items (one s.RBrace))
+
+abbrev pub enum_type : Option (List ℕ) → Option Items → CastType
+enum_type tag None = plain (b.Enum tag None) 0
+enum_type tag (Some l) = plain (b.Enum tag (Some l.items)) l.height
+
+abbrev pub tagged_enum : Form CastType
+tagged_enum = Form.seq (λ t l. enum_type (Some t.text) l) name (Form.maybe (map Some braced_items) None)
+
+-- behind `enum`
+abbrev pub enum_of : Sort → Form CastType
+enum_of s.LBrace = map (λ l. enum_type None (Some l)) braced_items
+enum_of _ = tagged_enum
+
+-- a type by its first token
+abbrev pub base_of : Sort → Form CastType
+base_of s.Void = map (λ _. plain b.Void 0) (one s.Void)
 base_of s.Signedness = signed_base
 base_of s.CharType = plain_base s.CharType
 base_of s.Length = plain_base s.Length
 base_of s.Int = plain_base s.Int
-base_of s.TypeName = map (λ t. b.Named t.text) (one s.TypeName)
-base_of s.Struct = Form.seq (λ _ t. b.Struct (Some t.text) None) (one s.Struct) name
-base_of s.Enum = Form.seq (λ _ t. b.Enum (Some t.text) None) (one s.Enum) name
+base_of s.TypeName = map (λ t. plain (b.Named t.text) 0) (one s.TypeName)
+base_of s.Struct = behind (one s.Struct) (Form.by struct_of)
+base_of s.Enum = behind (one s.Enum) (Form.by enum_of)
 base_of _ = Form.none
 
 abbrev pub begins_type : Sort → Bool
@@ -178,25 +249,81 @@ is_qualifier _ = false
 abbrev pub qualifiers : Form Bool
 qualifiers = Form.many is_qualifier false (λ _. map (λ t so_far. so_far || is_const t) (one s.Qualifier))
 
-abbrev pub type_of : Bool → Base → Bool → CastType
-type_of first base second = record { ty = record { base = base; stars = 0; dims = []; is_const = first || second }; height = 0 }
+abbrev pub type_of : Bool → CastType → Bool → CastType
+type_of first t second = record { ty = record { base = t.ty.base; stars = t.ty.stars; dims = t.ty.dims; is_const = first || second }; height = t.height }
 
 abbrev pub qualified : Form (Bool → CastType)
-qualified = Form.seq (λ base second first. type_of first base second) (Form.by base_of) qualifiers
+qualified = Form.seq (λ t second first. type_of first t second) (Form.by base_of) qualifiers
 
 abbrev pub type_form : Form CastType
 type_form = with qualifiers qualified
 
-abbrev pub pointer : CastType → CastType
-pointer t = record { ty = record { base = t.ty.base; stars = suc t.ty.stars; dims = t.ty.dims; is_const = t.ty.is_const }; height = suc t.height }
+-- stars of a declarator nest in one another, beside the type before them
+abbrev pub stars : Form ℕ
+stars = Form.maybe (Form.sub Phrase.pointers (λ n. n)) 0
 
-abbrev pub is_star : Sort → Bool
-is_star s.Star = true
-is_star _ = false
+abbrev pub pointer : CastType → ℕ → CastType
+pointer t n = record { ty = record { base = t.ty.base; stars = n; dims = t.ty.dims; is_const = t.ty.is_const }; height = max t.height n }
 
--- a type and its stars, below the node that it stands in
+-- a type and its stars
 abbrev pub cast_type : Form CastType
-cast_type = Form.loop is_star (λ _ _. true) (λ t. suc t.height) type_form (λ _. map (λ _. pointer) (one s.Star))
+cast_type = Form.seq pointer type_form stars
+
+-- ---- fields (C99 6.7.2.1)
+
+-- the dimensions of an array, and their greatest height
+pub record Dims : Type 0 where
+  pub exprs : List Expr
+  pub height : ℕ
+
+abbrev pub more_dims : Operand → Dims → Dims
+more_dims a l = record { exprs = l.exprs ++ (a.expr ∷ []); height = max l.height a.height }
+
+abbrev pub no_dims : Dims
+no_dims = record { exprs = []; height = 0 }
+
+abbrev pub is_bracket : Sort → Bool
+is_bracket s.LBracket = true
+is_bracket _ = false
+
+abbrev pub dims : Form Dims
+dims = Form.many is_bracket no_dims (λ _. map more_dims (behind (one s.LBracket) (before (expr level.conditional) (one s.RBracket))))
+
+pub record Declarator : Type 0 where
+  pub stars : ℕ
+  pub name : Token
+  pub dims : Dims
+
+abbrev pub named_dims : Form (ℕ → Declarator)
+named_dims = Form.seq (λ t l n. record { stars = n; name = t; dims = l }) name dims
+
+abbrev pub declarator : Form Declarator
+declarator = with stars named_dims
+
+abbrev pub declarators : Form (List Declarator)
+declarators = Form.loop is_comma (λ _ _. true) (λ _. 0) (map (λ d. d ∷ []) declarator) (λ _. map (λ d ds. ds ++ (d ∷ [])) (behind (one s.Comma) declarator))
+
+abbrev pub field_of : CastType → Declarator → Param
+field_of t d = record { ty = record { base = t.ty.base; stars = d.stars; dims = d.dims.exprs; is_const = t.ty.is_const }; name = Some d.name.text }
+
+abbrev pub fields_of : CastType → List Declarator → Fields
+fields_of t [] = record { params = []; height = t.height }
+fields_of t (d ∷ ds) = let rest = fields_of t ds in record { params = field_of t d ∷ rest.params; height = max (max d.stars d.dims.height) rest.height }
+
+abbrev pub field : Form Fields
+field = Form.seq fields_of type_form (before declarators (one s.Semi))
+
+abbrev pub more_fields : Fields → Fields → Fields
+more_fields f l = record { params = l.params ++ f.params; height = max l.height f.height }
+
+abbrev pub no_fields : Fields
+no_fields = record { params = []; height = 0 }
+
+abbrev pub definition : Fields → Fields
+definition l = record { params = l.params; height = suc l.height }
+
+abbrev pub struct_fields : Form Fields
+struct_fields = behind (one s.LBrace) (before (map definition (Form.many begins_type no_fields (λ _. map more_fields field))) (one s.RBrace))
 
 -- ---- expressions
 
@@ -251,10 +378,6 @@ pushed a l = record { exprs = l.exprs ++ (a.expr ∷ []); height = max l.height 
 abbrev pub no_arguments : Arguments
 no_arguments = record { exprs = []; height = 0 }
 
-abbrev pub is_comma : Sort → Bool
-is_comma s.Comma = true
-is_comma _ = false
-
 abbrev pub some_arguments : Form Arguments
 some_arguments = Form.loop is_comma (λ _ _. true) (λ _. 0) (map single (expr level.assignment)) (λ _. map pushed (behind (one s.Comma) (expr level.assignment)))
 
@@ -296,17 +419,8 @@ port_and_value =
 abbrev pub port_write : Form Operand
 port_write = with (one s.PortWrite) port_and_value
 
--- the parameter of a call, and its height
-abbrev pub param_of : Option Operand → Option Expr
-param_of None = None
-param_of (Some a) = Some a.expr
-
-abbrev pub param_height : Option Operand → ℕ
-param_height None = 0
-param_height (Some a) = a.height
-
 abbrev pub call_operand : Option Operand → Arguments → Token → Token → Token → Operand
-call_operand p l i n o = operand (e.CallItem (is_signal o) n.text i.text (param_of p) l.exprs o.pos) o.pos level.postfix (suc (max (param_height p) l.height))
+call_operand p l i n o = operand (e.CallItem (is_signal o) n.text i.text (value_of p) l.exprs o.pos) o.pos level.postfix (suc (max (height_of p) l.height))
 
 abbrev pub param : Form (Option Operand)
 param = Form.maybe (map Some (behind (one s.LBracket) (before (expr level.assignment) (one s.RBracket)))) None
@@ -505,4 +619,6 @@ somewhere = record { kind = kind.Sign; text = codes "("; pos = record { file = 0
 
 abbrev pub production : (p : Phrase) → Form (Of p)
 production (Phrase.expr least) = Form.loop (may least) fits (λ a. a.height) (Form.by primary) (λ x. map grown (operation x))
+production Phrase.pointers = Form.seq (λ _ n. suc n) (one s.Star) stars
+production Phrase.fields = struct_fields
 production Phrase.opened = Form.loop (may level.postfix) (λ f. fits (f somewhere)) (λ f. (f somewhere).height) parens (λ x. map (λ g f o. grown g (f o)) (operation x))

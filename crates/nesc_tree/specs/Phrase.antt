@@ -4,22 +4,31 @@ use Rattle.nm_base.specs.declared.token.Token.{Token}
 use Rattle.nesc_tree.specs.declared.sorts.Sort.{Sort}
 use Rattle.nesc_tree.specs.declared.sorts.Sort.TheVariants as s
 use Rattle.nesc_tree.specs.declared.operand.Operand.{Operand}
+use Rattle.nesc_tree.specs.declared.operand.Fields.{Fields}
 
 pub data Phrase : Type 0 where
   -- an expression of at least this level
   expr : ℕ → Phrase
   -- a postfix expression behind the `(` that it begins with
   opened : Phrase
+  -- the fields of a struct definition, with their braces
+  fields : Phrase
+  -- one star or more
+  pointers : Phrase
 
 -- an opened expression starts at its `(`
 abbrev pub Of : Phrase → Type 0
 Of (Phrase.expr least) = Operand
 Of Phrase.opened = Token → Operand
+Of Phrase.fields = Fields
+Of Phrase.pointers = ℕ
 
 -- whether some text has one level; an opened expression has at least two
 abbrev pub fits_one_level : Phrase → Bool
 fits_one_level (Phrase.expr least) = true
 fits_one_level Phrase.opened = false
+fits_one_level Phrase.fields = true
+fits_one_level Phrase.pointers = true
 
 -- whether an expression begins with a token of this sort
 abbrev pub begins_expr : Sort → Bool
@@ -46,3 +55,7 @@ begins_expr _ = false
 abbrev pub begins : Phrase → Sort → Bool
 begins (Phrase.expr least) x = begins_expr x
 begins Phrase.opened x = begins_expr x
+begins Phrase.fields s.LBrace = true
+begins Phrase.fields _ = false
+begins Phrase.pointers s.Star = true
+begins Phrase.pointers _ = false

@@ -9,6 +9,8 @@ use Rattle.nesc_tree.specs.declared.tree.Expr.{Expr}
 use Rattle.nesc_tree.specs.declared.tree.Expr.TheVariants as e
 use Rattle.nesc_tree.specs.declared.tree.Base.{Base}
 use Rattle.nesc_tree.specs.declared.tree.Base.TheVariants as b
+use Rattle.nesc_tree.specs.declared.tree.EnumItem.{EnumItem}
+use Rattle.nesc_tree.specs.declared.tree.Param.{Param}
 use Rattle.nesc_tree.specs.declared.tree.TypeSpec.{TypeSpec}
 use Rattle.nesc_tree.specs.declared.tree.InOp.TheVariants as op
 use Rattle.nesc_tree.specs.declared.tree.PreOp.TheVariants as pre
@@ -59,6 +61,13 @@ names = (codes "t", true) ∷ []
 abbrev pub spec : Base → ℕ → TypeSpec
 spec base stars = record { base = base; stars = stars; dims = []; is_const = false }
 
+-- a field, and a constant of an enum
+abbrev pub field : List ℕ → ℕ → List Expr → Param
+field text stars dims = record { ty = record { base = b.Named (codes "t"); stars = stars; dims = dims; is_const = false }; name = Some text }
+
+abbrev pub item : List ℕ → Option Expr → EnumItem
+item text value = record { name = text; value = value; pos = start }
+
 -- the tree, and how many tokens are behind it
 abbrev pub tree_of : Answer Operand → Option (Expr × ℕ)
 tree_of (Ok x) = Some (x.0.expr, length x.1.rest)
@@ -91,6 +100,11 @@ pub record WorkedRows : Type 0 where
   pub cast : Reads (opening ∷ t ∷ closing ∷ minus ∷ a ∷ []) (e.Cast (spec (b.Named (codes "t")) 0) (e.Unary pre.Neg name start) start)
   pub no_cast : Reads (opening ∷ a ∷ closing ∷ minus ∷ a ∷ []) (e.Binary op.Sub name name start)
   pub cast_to_pointer : Reads (opening ∷ word (codes "unsigned") ∷ word (codes "long") ∷ star ∷ closing ∷ a ∷ []) (e.Cast (spec (b.Int int.U32) 1) name start)
+  -- sizeof (struct { t *a, t[a]; }), sizeof (const enum a { a = a, t, })
+  pub size_of_struct : Reads (word (codes "sizeof") ∷ opening ∷ word (codes "struct") ∷ sign (codes "{") ∷ t ∷ star ∷ a ∷ sign (codes ",") ∷ t ∷ sign (codes "[") ∷ a ∷ sign (codes "]") ∷ sign (codes ";") ∷ sign (codes "}") ∷ closing ∷ [])
+      (e.SizeOfType (spec (b.Struct None (Some (field (codes "a") 1 [] ∷ field (codes "t") 0 (name ∷ []) ∷ []))) 0) start)
+  pub size_of_enum : Reads (word (codes "sizeof") ∷ opening ∷ word (codes "const") ∷ word (codes "enum") ∷ a ∷ sign (codes "{") ∷ a ∷ gets ∷ a ∷ sign (codes ",") ∷ t ∷ sign (codes ",") ∷ sign (codes "}") ∷ closing ∷ [])
+      (e.SizeOfType (record { base = b.Enum (Some (codes "a")) (Some (item (codes "a") (Some name) ∷ item (codes "t") None ∷ [])); stars = 0; dims = []; is_const = true }) start)
   -- sizeof (t), sizeof (a) [ a ], sizeof a
   pub size_of_type : Reads (word (codes "sizeof") ∷ opening ∷ t ∷ closing ∷ []) (e.SizeOfType (spec (b.Named (codes "t")) 0) start)
   pub size_of_element : Reads (word (codes "sizeof") ∷ opening ∷ a ∷ closing ∷ sign (codes "[") ∷ a ∷ sign (codes "]") ∷ []) (e.SizeOfExpr (e.Index name name start) start)
@@ -109,3 +123,5 @@ pub record WorkedRows : Type 0 where
   -- ((a)) has three levels
   pub three_levels : tree_of (read_in 3 (opening ∷ opening ∷ a ∷ closing ∷ closing ∷ [])) ≡ Some (name, 0)
   pub two_are_too_few : stop_of (read_in 2 (opening ∷ opening ∷ a ∷ closing ∷ closing ∷ [])) ≡ Some (true, 4)
+  -- sizeof (t *) has two
+  pub star_is_a_level : stop_of (read_in 1 (word (codes "sizeof") ∷ opening ∷ t ∷ star ∷ closing ∷ [])) ≡ Some (true, 2)

@@ -20,7 +20,7 @@ pub use components::{
 pub use declarations::{Attr, AttrArg, Decl, FuncHead, FuncKind, Init, Stmt};
 pub use laws::{longest_chooses_nothing, one_tree, probe_tells, reads_the_reach};
 pub use names::TypeNames;
-pub use operand::{Arguments, CastType, Operand, Width};
+pub use operand::{Arguments, CastType, Fields, Operand, Width};
 pub use rows::worked_rows;
 pub use sorts::{Sort, ahead, same_sort, sort_of};
 pub use tree::{Base, EnumItem, Expr, InOp, Param, PostOp, PreOp, TypeSpec};

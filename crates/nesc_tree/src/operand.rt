@@ -1,6 +1,6 @@
 //! Expressions, arguments and types that were read, with what reading goes on by.
 
-use crate::tree::{Expr, TypeSpec};
+use crate::tree::{Expr, Param, TypeSpec};
 use nm_base::{List, Pos};
 
 /// An expression that was read, where it starts, its level of precedence and its height in levels.
@@ -19,10 +19,17 @@ pub struct Arguments {
     pub height: usize,
 }
 
-/// A type between parentheses, and its height.
+/// A type that was read, and its height.
 #[derive(Drop)]
 pub struct CastType {
     pub ty: TypeSpec,
+    pub height: usize,
+}
+
+/// The fields of a struct definition, and the height of that definition.
+#[derive(Drop)]
+pub struct Fields {
+    pub params: List<Param>,
     pub height: usize,
 }
 
