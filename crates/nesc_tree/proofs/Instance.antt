@@ -28,12 +28,14 @@ all_fine (Phrase.expr least) = checked (production (Phrase.expr least)) refl
 all_fine Phrase.opened = checked (production Phrase.opened) refl
 all_fine Phrase.fields = checked (production Phrase.fields) refl
 all_fine Phrase.pointers = checked (production Phrase.pointers) refl
+all_fine Phrase.type = checked (production Phrase.type) refl
 
 full : (p : Phrase) → nullable (production p) ≡ false
 full (Phrase.expr least) = refl
 full Phrase.opened = refl
 full Phrase.fields = refl
 full Phrase.pointers = refl
+full Phrase.type = refl
 
 table : (p : Phrase) (x : Sort) → begins p x ≡ starts (production p) x
 table (Phrase.expr least) s.End = refl
@@ -44,12 +46,15 @@ table Phrase.fields s.LBrace = refl
 table Phrase.fields _ = refl
 table Phrase.pointers s.Star = refl
 table Phrase.pointers _ = refl
+table Phrase.type s.End = refl
+table Phrase.type _ = refl
 
 ends : (p : Phrase) → begins p s.End ≡ false
 ends (Phrase.expr least) = refl
 ends Phrase.opened = refl
 ends Phrase.fields = refl
 ends Phrase.pointers = refl
+ends Phrase.type = refl
 
 pub reads_spelled : (d : ℕ) (k : Phrase) (p : Place) → sound.Sound (λ a q. SpellsIn production d k p a q) (phrase production d k p)
 reads_spelled = sound.phrase_sound production all_fine table
@@ -62,6 +67,7 @@ all_open (Phrase.expr least) = opened (production (Phrase.expr least)) refl
 all_open Phrase.opened = opened (production Phrase.opened) refl
 all_open Phrase.fields = opened (production Phrase.fields) refl
 all_open Phrase.pointers = opened (production Phrase.pointers) refl
+all_open Phrase.type = opened (production Phrase.type) refl
 
 stays : (p : Phrase) (x : Sort) → stay p x ≡ false → bars (production p) x ≡ false
 stays (Phrase.expr least) s.Assign h = absurd cc
@@ -115,18 +121,26 @@ stays Phrase.fields s.End h = refl
 stays Phrase.fields _ h = refl
 stays Phrase.pointers s.Star h = absurd cc
 stays Phrase.pointers _ h = refl
+stays Phrase.type s.Qualifier h = absurd cc
+stays Phrase.type s.CharType h = absurd cc
+stays Phrase.type s.Length h = absurd cc
+stays Phrase.type s.Int h = absurd cc
+stays Phrase.type s.LBrace h = absurd cc
+stays Phrase.type _ h = refl
 
 shallow : (p : Phrase) → fits_one_level p ≡ true → nests (production p) ≡ false
 shallow (Phrase.expr least) h = refl
 shallow Phrase.opened h = absurd cc
 shallow Phrase.fields h = refl
 shallow Phrase.pointers h = refl
+shallow Phrase.type h = refl
 
 seeded : (p : Phrase) → fits_one_level p ≡ true → seed false (production p) ≡ Seed.at (seed_of p)
 seeded (Phrase.expr least) h = refl
 seeded Phrase.opened h = absurd cc
 seeded Phrase.fields h = refl
 seeded Phrase.pointers h = refl
+seeded Phrase.type h = refl
 
 refused : (b : Bool) (ts : List Token) → rest_of (stop b ts) ≡ ts
 refused true ts = refl
@@ -137,6 +151,7 @@ unfolding read phrase
 shut (Phrase.expr least) h p = absurd cc
 shut Phrase.fields h p = absurd cc
 shut Phrase.pointers h p = absurd cc
+shut Phrase.type h p = absurd cc
 shut Phrase.opened h p = (stop (begins (Phrase.expr 0) (next p)) p.rest, refl, refused (begins (Phrase.expr 0) (next p)) p.rest)
 
 pub stops_told : (d : ℕ) (k : Phrase) (p : Place) → told.Told (SpellsIn production d k) (stay k) p (phrase production d k p)
@@ -154,6 +169,7 @@ rank (Phrase.expr least) = 0
 rank Phrase.opened = 1
 rank Phrase.fields = 0
 rank Phrase.pointers = 0
+rank Phrase.type = 0
 
 top : (k : Phrase) → nat_lt (rank k) 2 ≡ true
 unfolding rank
@@ -161,6 +177,7 @@ top (Phrase.expr least) = refl
 top Phrase.opened = refl
 top Phrase.fields = refl
 top Phrase.pointers = refl
+top Phrase.type = refl
 
 lower : (k : Phrase) → leads rank (rank k) (production k) ≡ true
 unfolding rank
@@ -168,6 +185,7 @@ lower (Phrase.expr least) = refl
 lower Phrase.opened = refl
 lower Phrase.fields = refl
 lower Phrase.pointers = refl
+lower Phrase.type = refl
 
 pub grows : (d : ℕ) (k : Phrase) (p : Place) → Grown d (phrase production d k p) (λ e. phrase production e k p)
 grows = phrase_grown production all_fine full table rank 2 top lower

@@ -47,6 +47,7 @@ seed_of (Phrase.expr least) = s.Word
 seed_of Phrase.opened = s.Word
 seed_of Phrase.fields = s.LBrace
 seed_of Phrase.pointers = s.Star
+seed_of Phrase.type = s.Void
 
 -- how the shortest text begins, with phrases in it or without
 abbrev pub seed : Bool → {A : Type 0} → Form A → Seed

@@ -13,3 +13,5 @@ nothing_chosen Phrase.fields s.End = refl
 nothing_chosen Phrase.fields _ = refl
 nothing_chosen Phrase.pointers s.End = refl
 nothing_chosen Phrase.pointers _ = refl
+nothing_chosen Phrase.type s.End = refl
+nothing_chosen Phrase.type _ = refl

@@ -71,6 +71,7 @@ nothing (Phrase.expr least) = refl
 nothing Phrase.opened = refl
 nothing Phrase.fields = refl
 nothing Phrase.pointers = refl
+nothing Phrase.type = refl
 
 module _ (d : ℕ) (k : Phrase) (one : fits_one_level k ≡ true) (names : Names) (ts : List Token) where
   abbrev answer : Answer (Of k)

@@ -15,12 +15,21 @@ abbrev pub stay_expr : ℕ → Sort → Bool
 stay_expr least s.Comma = nat_le least 0
 stay_expr least x = is_operator x
 
+abbrev pub stay_type : Sort → Bool
+stay_type s.Qualifier = true
+stay_type s.CharType = true
+stay_type s.Length = true
+stay_type s.Int = true
+stay_type s.LBrace = true
+stay_type _ = false
+
 -- tokens that a text of the phrase would go on with
 abbrev pub stay : Phrase → Sort → Bool
 stay (Phrase.expr least) x = stay_expr least x
 stay Phrase.opened x = stay_expr 1 x
 stay Phrase.fields x = false
 stay Phrase.pointers x = begins Phrase.pointers x
+stay Phrase.type x = stay_type x
 
 -- tokens that a text of the form would go on with
 abbrev pub bars : {A : Type 0} → Form A → Sort → Bool

@@ -27,7 +27,8 @@ use Rattle.nesc_tree.specs.declared.tree.EnumItem.{EnumItem}
 use Rattle.nesc_tree.specs.declared.operand.Width.{Width}
 use Rattle.nesc_tree.specs.declared.operand.Width.TheVariants as w
 use Rattle.nesc_tree.specs.Level as level
-use Rattle.nesc_tree.specs.Phrase.{Phrase, Of, begins}
+pub use Rattle.nesc_tree.specs.Phrase.{begins_type}
+use Rattle.nesc_tree.specs.Phrase.{Phrase, Of}
 use Rattle.nesc_tree.specs.Form.{Form}
 
 abbrev pub one : Sort → Form Token
@@ -228,18 +229,6 @@ base_of s.TypeName = map (λ t. plain (b.Named t.text) 0) (one s.TypeName)
 base_of s.Struct = behind (one s.Struct) (Form.by struct_of)
 base_of s.Enum = behind (one s.Enum) (Form.by enum_of)
 base_of _ = Form.none
-
-abbrev pub begins_type : Sort → Bool
-begins_type s.Qualifier = true
-begins_type s.Void = true
-begins_type s.Signedness = true
-begins_type s.CharType = true
-begins_type s.Length = true
-begins_type s.Int = true
-begins_type s.TypeName = true
-begins_type s.Struct = true
-begins_type s.Enum = true
-begins_type _ = false
 
 abbrev pub is_qualifier : Sort → Bool
 is_qualifier s.Qualifier = true
@@ -619,6 +608,7 @@ somewhere = record { kind = kind.Sign; text = codes "("; pos = record { file = 0
 
 abbrev pub production : (p : Phrase) → Form (Of p)
 production (Phrase.expr least) = Form.loop (may least) fits (λ a. a.height) (Form.by primary) (λ x. map grown (operation x))
+production Phrase.type = type_form
 production Phrase.pointers = Form.seq (λ _ n. suc n) (one s.Star) stars
 production Phrase.fields = struct_fields
 production Phrase.opened = Form.loop (may level.postfix) (λ f. fits (f somewhere)) (λ f. (f somewhere).height) parens (λ x. map (λ g f o. grown g (f o)) (operation x))

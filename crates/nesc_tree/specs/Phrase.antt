@@ -4,6 +4,7 @@ use Rattle.nm_base.specs.declared.token.Token.{Token}
 use Rattle.nesc_tree.specs.declared.sorts.Sort.{Sort}
 use Rattle.nesc_tree.specs.declared.sorts.Sort.TheVariants as s
 use Rattle.nesc_tree.specs.declared.operand.Operand.{Operand}
+use Rattle.nesc_tree.specs.declared.operand.CastType.{CastType}
 use Rattle.nesc_tree.specs.declared.operand.Fields.{Fields}
 
 pub data Phrase : Type 0 where
@@ -15,6 +16,8 @@ pub data Phrase : Type 0 where
   fields : Phrase
   -- one star or more
   pointers : Phrase
+  -- a type without stars; it is no level itself
+  type : Phrase
 
 -- an opened expression starts at its `(`
 abbrev pub Of : Phrase → Type 0
@@ -22,6 +25,7 @@ Of (Phrase.expr least) = Operand
 Of Phrase.opened = Token → Operand
 Of Phrase.fields = Fields
 Of Phrase.pointers = ℕ
+Of Phrase.type = CastType
 
 -- whether some text has one level; an opened expression has at least two
 abbrev pub fits_one_level : Phrase → Bool
@@ -29,6 +33,7 @@ fits_one_level (Phrase.expr least) = true
 fits_one_level Phrase.opened = false
 fits_one_level Phrase.fields = true
 fits_one_level Phrase.pointers = true
+fits_one_level Phrase.type = true
 
 -- whether an expression begins with a token of this sort
 abbrev pub begins_expr : Sort → Bool
@@ -51,6 +56,19 @@ begins_expr s.Post = true
 begins_expr s.Call = true
 begins_expr _ = false
 
+-- whether a type begins with a token of this sort
+abbrev pub begins_type : Sort → Bool
+begins_type s.Qualifier = true
+begins_type s.Void = true
+begins_type s.Signedness = true
+begins_type s.CharType = true
+begins_type s.Length = true
+begins_type s.Int = true
+begins_type s.TypeName = true
+begins_type s.Struct = true
+begins_type s.Enum = true
+begins_type _ = false
+
 -- whether a text of the phrase begins with a token of this sort
 abbrev pub begins : Phrase → Sort → Bool
 begins (Phrase.expr least) x = begins_expr x
@@ -59,3 +77,4 @@ begins Phrase.fields s.LBrace = true
 begins Phrase.fields _ = false
 begins Phrase.pointers s.Star = true
 begins Phrase.pointers _ = false
+begins Phrase.type x = begins_type x
