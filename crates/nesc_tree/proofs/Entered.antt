@@ -1,18 +1,18 @@
 -- With enough levels, reading goes past a token that begins what is read; what does not begin is refused at once.
-use Rattle.std.proofs.Common.{◌≡◌, ℕ, zero, suc, ◌+◌, ◌≤◌, ◌<◌, Bool, true, false, cond, ◌&&◌, List, [], ◌∷◌, length, Ok, Err, refl, sym, ap, subst, ◌∙◌, arith}
-use Rattle.std.proofs.lemmas.Bool.{le-leb, leb-true, ltb-true}
-use Rattle.std.specs.Prelude.{nat_le, nat_lt}
+use Rattle.std.proofs.Common.{◌≡◌, ℕ, zero, suc, ◌≤◌, ◌<◌, Bool, true, false, cond, ◌&&◌, List, [], ◌∷◌, length, Ok, Err, refl, sym, subst, ◌∙◌, arith}
+use Rattle.std.proofs.lemmas.Bool.{le-leb, ltb-true}
+use Rattle.std.specs.Prelude.{nat_lt}
 use Rattle.nm_base.specs.declared.token.Token.{Token}
 use Rattle.nesc_tree.specs.declared.sorts.Sort.{Sort}
 use Rattle.nesc_tree.specs.declared.sorts.Sort.TheVariants as s
-use Rattle.nesc_tree.specs.Sorts.{Names, sort, ahead, same_sort, sorts}
+use Rattle.nesc_tree.specs.Sorts.{Names, ahead, same_sort, sorts}
 use Rattle.nesc_tree.specs.Phrase.{Phrase, Of, begins}
 use Rattle.nesc_tree.specs.Form.{Form, Place, next, nullable, starts, either, goes}
-use Rattle.nesc_tree.specs.Reading.{Fault, Syntax, Deep, ◌>>=◌, Answer, Reader, nests, stop, rest_of, pass, short, guarded, turns, read, phrase, all_of}
+use Rattle.nesc_tree.specs.Reading.{Fault, Syntax, ◌>>=◌, Answer, Reader, nests, pass, short, guarded, turns, read, all_of}
 use Rattle.nesc_tree.specs.Laws.{left_by}
 use Rattle.nesc_tree.proofs.Fine.{Fine}
 use Rattle.nesc_tree.proofs.Checked.{no, all_at}
-use Rattle.nesc_tree.proofs.Moves.{Moves, weaken, moves_then, moves, strict, turns_moves, phrase_moves, passes, left_of, right_of, not_left, not_both, second}
+use Rattle.nesc_tree.proofs.Moves.{Moves, weaken, moves_then, moves, strict, turns_moves, passes, left_of, right_of, not_left, not_both, second}
 
 -- ---- what does not begin is refused at once
 

@@ -1,18 +1,16 @@
 -- With more levels reading answers the same, but where there were too few: there it goes on.
-use Rattle.std.proofs.Common.{◌≡◌, ℕ, zero, suc, ◌+◌, ◌≤◌, ◌<◌, Bool, true, false, cond, ◌&&◌, List, [], ◌∷◌, length, Ok, Err, refl, sym, ap, subst, ◌∙◌, arith}
+use Rattle.std.proofs.Common.{◌≡◌, ℕ, zero, suc, ◌+◌, ◌≤◌, ◌<◌, Bool, true, false, cond, List, [], ◌∷◌, length, Ok, Err, refl, sym, subst, ◌∙◌, arith}
 use Rattle.std.proofs.lemmas.Bool.{le-leb, leb-true, ltb-true}
 use Rattle.std.specs.Prelude.{nat_le, nat_lt}
 use Rattle.nm_base.specs.declared.token.Token.{Token}
 use Rattle.nesc_tree.specs.declared.sorts.Sort.{Sort}
-use Rattle.nesc_tree.specs.declared.sorts.Sort.TheVariants as s
-use Rattle.nesc_tree.specs.Sorts.{Names, sort, ahead, same_sort, sorts}
+use Rattle.nesc_tree.specs.Sorts.{Names, sort, same_sort}
 use Rattle.nesc_tree.specs.Phrase.{Phrase, Of, begins}
-use Rattle.nesc_tree.specs.Form.{Form, Place, next, nullable, starts, either, goes}
-use Rattle.nesc_tree.specs.Reading.{Fault, Syntax, Deep, ◌>>=◌, Answer, Reader, nests, stop, rest_of, pass, short, guarded, turns, read, phrase}
-use Rattle.nesc_tree.specs.Laws.{left_by}
+use Rattle.nesc_tree.specs.Form.{Form, Place, next, nullable, starts, goes}
+use Rattle.nesc_tree.specs.Reading.{Syntax, Deep, ◌>>=◌, Answer, Reader, nests, stop, pass, short, guarded, turns, read, phrase}
 use Rattle.nesc_tree.proofs.Fine.{Fine}
 use Rattle.nesc_tree.proofs.Moves.{Moves, weaken, moves_then, moves, turns_moves, phrase_moves, left_of}
-use Rattle.nesc_tree.proofs.Entered.{Past, Enough, past_then, left_moves, guard_open, guarded_refused, refuses, enters, all_lead, leads, run, run_moves, turns_then, turn_past}
+use Rattle.nesc_tree.proofs.Entered.{Past, Enough, past_then, guard_open, guarded_refused, refuses, enters, all_lead, leads, run, run_moves, turns_then, turn_past}
 
 abbrev pub Grown : {A : Type 0} → ℕ → Answer A → (ℕ → Answer A) → Type 0
 Grown d (Ok u) y = (e : ℕ) → d ≤ e → y e ≡ Ok u

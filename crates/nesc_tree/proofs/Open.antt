@@ -1,11 +1,10 @@
 -- What may follow a form, and what its shortest text begins with.
-use Rattle.std.proofs.Common.{◌≡◌, ℕ, Bool, true, false, cond, ◌&&◌, List, [], ◌∷◌}
-use Rattle.std.specs.Prelude.{nat_le}
+use Rattle.std.proofs.Common.{◌≡◌, Bool, true, false, cond, ◌&&◌, List, [], ◌∷◌}
 use Rattle.nesc_tree.specs.declared.sorts.Sort.{Sort}
 use Rattle.nesc_tree.specs.declared.sorts.Sort.TheVariants as s
 use Rattle.nesc_tree.specs.Sorts.{same_sort, sorts}
 use Rattle.nesc_tree.specs.Phrase.{Phrase, fits_one_level}
-use Rattle.nesc_tree.specs.Form.{Form, nullable, starts, either}
+use Rattle.nesc_tree.specs.Form.{Form}
 use Rattle.nesc_tree.specs.Reading.{nests}
 pub use Rattle.nesc_tree.specs.Choices.{any_of, stay_expr, stay, bars}
 

@@ -1,5 +1,5 @@
 -- The grammar: expressions of C99 6.5 with the calls of the nesC 1.3 Reference, and the types that stand in them.
-use Rattle.std.specs.Prelude.{◌≡◌, ℕ, suc, max, Bool, true, false, ◌&&◌, ◌||◌, if◌then◌else◌, nat_le, List, [], ◌∷◌, ◌++◌, Option, Some, None, codes, bytes_eq}
+use Rattle.std.specs.Prelude.{ℕ, suc, max, Bool, true, false, ◌&&◌, ◌||◌, if◌then◌else◌, nat_le, List, [], ◌∷◌, ◌++◌, Option, Some, None, codes, bytes_eq}
 use Rattle.nm_base.specs.declared.pos.Pos.{Pos}
 use Rattle.nm_base.specs.declared.token.Token.{Token}
 use Rattle.nm_base.specs.declared.token.Kind.TheVariants as kind
@@ -17,7 +17,6 @@ use Rattle.nesc_tree.specs.declared.tree.Expr.{Expr}
 use Rattle.nesc_tree.specs.declared.tree.Expr.TheVariants as e
 use Rattle.nesc_tree.specs.declared.tree.Base.{Base}
 use Rattle.nesc_tree.specs.declared.tree.Base.TheVariants as b
-use Rattle.nesc_tree.specs.declared.tree.TypeSpec.{TypeSpec}
 use Rattle.nesc_tree.specs.declared.operand.Operand.{Operand}
 use Rattle.nesc_tree.specs.declared.operand.Arguments.{Arguments}
 use Rattle.nesc_tree.specs.declared.operand.CastType.{CastType}

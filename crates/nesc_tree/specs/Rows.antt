@@ -2,7 +2,6 @@
 use Rattle.std.specs.Prelude.{◌≡◌, ℕ, Bool, true, false, List, [], ◌∷◌, length, Option, Some, None, Ok, Err, codes}
 use Rattle.nm_base.specs.declared.pos.Pos.{Pos}
 use Rattle.nm_base.specs.declared.token.Token.{Token}
-use Rattle.nm_base.specs.declared.token.Kind.{Kind}
 use Rattle.nm_base.specs.declared.token.Kind.TheVariants as k
 use Rattle.nm_base.specs.declared.int_type.IntType.TheVariants as int
 use Rattle.nesc_tree.specs.declared.tree.Expr.{Expr}

@@ -1,4 +1,4 @@
-use Rattle.std.proofs.Common.{◌≡◌, ◌∙◌, ap, ℕ, List}
+use Rattle.std.proofs.Common.{◌∙◌, ap, ℕ, List}
 use Rattle.nesc_tree.specs.Sorts.{Names, declared}
 use Rattle.nesc_tree.specs.Bindings.{bindings}
 use Rattle.nesc_tree.proofs.Held.{inserted}

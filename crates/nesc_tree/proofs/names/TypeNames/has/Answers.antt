@@ -1,4 +1,4 @@
-use Rattle.std.proofs.Common.{◌≡◌, ◌∙◌, ap, false}
+use Rattle.std.proofs.Common.{◌∙◌, ap, false}
 use Rattle.std.specs.Prelude.{unwrap_or}
 use Rattle.nesc_tree.specs.Sorts.{is_type}
 use Rattle.nesc_tree.proofs.Held.{held}
