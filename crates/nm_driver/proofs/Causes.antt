@@ -18,18 +18,18 @@ use Rattle.nm_driver.specs.declared.answer.Answer.{Answer}
 use Rattle.nm_driver.specs.declared.answer.Stop.{Stop}
 use Rattle.nm_driver.specs.declared.answer.Stop.TheVariants as stop
 use Rattle.nm_driver.specs.declared.form.Constant.{Constant}
-use Rattle.nm_driver.specs.declared.words.Mode.{Mode}
-use Rattle.nm_driver.specs.declared.words.Mode.TheVariants.{Run, Mote}
+use Rattle.nm_words.specs.declared.mode.Mode.{Mode}
+use Rattle.nm_words.specs.declared.mode.Mode.TheVariants.{Run, Mote}
 use Rattle.nm_driver.specs.declared.status.Status.{Status}
 use Rattle.nm_driver.specs.declared.status.Status.TheVariants.{Done, Refused, Usage, Missing, ReadFault, WriteFault, BadSchedule, Limit, TooLarge, NoMemory, BadImage}
 use Rattle.nm_driver.specs.Form.{HasForm}
 use Rattle.nm_driver.specs.Lines.{answer_line}
-use Rattle.nm_driver.specs.NamedFiles.{FileStops, HasImage, HasRows, HasSubject, ImageStops, IsRead, IsSource, IsStopped, IsTooLarge, ScheduleStops, SubjectStops, source_file, status_of}
-use Rattle.nm_driver.specs.Output.{HasCause, HasText, IsDone, IsDue, Prints, Stops}
+use Rattle.nm_driver.specs.NamedFiles.{FileStops, HasImage, HasRows, HasSchedule, HasSubject, ImageStops, IsRead, IsSource, IsStopped, IsTooLarge, RowsStop, ScheduleStops, SubjectStops, source_file, status_of}
+use Rattle.nm_driver.specs.Output.{HasCause, HasText, IsDone, IsDue, IsReady, Prints, Stops}
 use Rattle.nm_driver.specs.Prepared.{IfSays, IsLined, IsNoMemory, SaysOf, SaysOfSubject, fault_file, line_of}
 use Rattle.nm_driver.specs.Tokens.{spellings}
-use Rattle.nm_driver.specs.Words.{Asked, AreWords}
-use Rattle.nm_driver.proofs.Requests.{one_request}
+use Rattle.nm_words.specs.Asked.{Asked, AreWords, Requested, help, request, version}
+use Rattle.nm_words.proofs.OneAnswer.{one_request}
 
 -- ---- facts of an answer, where there is one
 
@@ -48,19 +48,19 @@ passed P (Ok x) e is h = absurd is
 
 -- ---- answers that are due
 
-module _ (told : Option Told) (words : List (List ℕ)) (asked : Asked) (are : AreWords words asked) (board : BoardState) where
+module _ (told : Option Told) (words : List (List ℕ)) (asked : Requested) (are : AreWords words (request asked)) (board : BoardState) where
   lined_due : (status : Status) (text : List ℕ) → IsLined status → text ≡ answer_line [] status → ((files : Told) → told ≡ Some files → Stops files words status) → IsDue told words board status text
   lined_due Done text lined line stops = absurd lined
   lined_due (Refused r) text lined line stops = absurd lined
   lined_due Usage text lined line stops = absurd lined
-  lined_due (Missing name) text lined line stops = record { is_text = line; cause = stops; usage = λ e. absurd (let k : Missing name ≡ Usage = e in cc); not_usage = λ none. absurd (none (asked, are)) }
-  lined_due ReadFault text lined line stops = record { is_text = line; cause = λ files h. tt; usage = λ e. absurd (let k : ReadFault ≡ Usage = e in cc); not_usage = λ none. absurd (none (asked, are)) }
+  lined_due (Missing name) text lined line stops = record { is_text = line; cause = stops; usage = λ e. absurd (let k : Missing name ≡ Usage = e in cc); not_usage = λ none. absurd (none (request asked, are)) }
+  lined_due ReadFault text lined line stops = record { is_text = line; cause = λ files h. tt; usage = λ e. absurd (let k : ReadFault ≡ Usage = e in cc); not_usage = λ none. absurd (none (request asked, are)) }
   lined_due WriteFault text lined line stops = absurd lined
-  lined_due (BadSchedule n) text lined line stops = record { is_text = line; cause = stops; usage = λ e. absurd (let k : BadSchedule n ≡ Usage = e in cc); not_usage = λ none. absurd (none (asked, are)) }
-  lined_due (Limit l) text lined line stops = record { is_text = line; cause = stops; usage = λ e. absurd (let k : Limit l ≡ Usage = e in cc); not_usage = λ none. absurd (none (asked, are)) }
+  lined_due (BadSchedule n) text lined line stops = record { is_text = line; cause = stops; usage = λ e. absurd (let k : BadSchedule n ≡ Usage = e in cc); not_usage = λ none. absurd (none (request asked, are)) }
+  lined_due (Limit l) text lined line stops = record { is_text = line; cause = stops; usage = λ e. absurd (let k : Limit l ≡ Usage = e in cc); not_usage = λ none. absurd (none (request asked, are)) }
   lined_due (TooLarge room n) text lined line stops = absurd lined
   lined_due NoMemory text lined line stops = absurd lined
-  lined_due (BadImage n) text lined line stops = record { is_text = line; cause = stops; usage = λ e. absurd (let k : BadImage n ≡ Usage = e in cc); not_usage = λ none. absurd (none (asked, are)) }
+  lined_due (BadImage n) text lined line stops = record { is_text = line; cause = stops; usage = λ e. absurd (let k : BadImage n ≡ Usage = e in cc); not_usage = λ none. absurd (none (request asked, are)) }
 
   fault_due : (e : Fault) (known : Known) (text : List ℕ) → asked.mode ≡ Run → (IsNoMemory e → ⊥) → text ≡ answer_line (fault_file known (source_file asked.subject) e) (status_of e)
       → ((files : Told) → told ≡ Some files → IsStopped files asked.subject e known) → ((files : Told) → told ≡ Some files → Stops files words (status_of e)) → IsDue told words board (status_of e) text
@@ -68,7 +68,7 @@ module _ (told : Option Told) (words : List (List ℕ)) (asked : Asked) (are : A
     is_text = record { asked = asked; words_are = are; runs = runs; known = known; line = line; source = source };
     cause = stops;
     usage = λ e. absurd (let k : Refused r ≡ Usage = e in cc);
-    not_usage = λ none. absurd (none (asked, are));
+    not_usage = λ none. absurd (none (request asked, are));
   }
   fault_due (fault.Missing name) known text runs found line source stops = lined_due (Missing name) text tt line stops
   fault_due fault.ReadFault known text runs found line source stops = lined_due ReadFault text tt line stops
@@ -77,7 +77,7 @@ module _ (told : Option Told) (words : List (List ℕ)) (asked : Asked) (are : A
     is_text = line;
     cause = stops;
     usage = λ e. absurd (let k : TooLarge room n ≡ Usage = e in cc);
-    not_usage = λ none. absurd (none (asked, are));
+    not_usage = λ none. absurd (none (request asked, are));
   }
   fault_due fault.NoMemory known text runs found line source stops = absurd (found tt)
 
@@ -158,25 +158,29 @@ not_image told name image NoMemory has h = absurd h
 not_image told name image (BadImage n) has h =
     absurd (err_ok n image (sym h.first ∙ ap image_of (sym (same_text told name has.text has.read h.text h.read)) ∙ has.image_is))
 
-not_schedule : (told : Told) (name : List ℕ) (rows : List Due) (s : Status) → HasRows told name rows → ScheduleStops told name s → s ≡ ReadFault
-not_schedule told name rows Done has h = absurd h
-not_schedule told name rows (Refused r) has h = absurd h
-not_schedule told name rows Usage has h = absurd h
-not_schedule told name rows (Missing n) has h = not_file told name has.text (Missing n) has.read h
-not_schedule told name rows ReadFault has h = refl
-not_schedule told name rows WriteFault has h = absurd h
-not_schedule told name rows (BadSchedule n) has h =
+not_rows : (told : Told) (name : List ℕ) (rows : List Due) (s : Status) → HasRows told name rows → RowsStop told name s → s ≡ ReadFault
+not_rows told name rows Done has h = absurd h
+not_rows told name rows (Refused r) has h = absurd h
+not_rows told name rows Usage has h = absurd h
+not_rows told name rows (Missing n) has h = not_file told name has.text (Missing n) has.read h
+not_rows told name rows ReadFault has h = refl
+not_rows told name rows WriteFault has h = absurd h
+not_rows told name rows (BadSchedule n) has h =
     absurd (err_ok n rows (sym h.first ∙ ap schedule_of (sym (same_text told name has.text has.read h.text h.read)) ∙ has.rows_are))
-not_schedule told name rows (Limit l) has (inl h) = not_file told name has.text (Limit l) has.read h
-not_schedule told name rows (Limit l) has (inr h) =
+not_rows told name rows (Limit l) has (inl h) = not_file told name has.text (Limit l) has.read h
+not_rows told name rows (Limit l) has (inr h) =
     let same = ok_of h.rows rows (sym h.rows_are ∙ ap schedule_of (sym (same_text told name has.text has.read h.text h.read)) ∙ has.rows_are) in
     let few : length rows ≤ 100000 = has.few in
     let many : 100000 < length h.rows = h.many in
     let e = ap length same in
     absurd (omega arith)
-not_schedule told name rows (TooLarge room n) has h = absurd h
-not_schedule told name rows NoMemory has h = absurd h
-not_schedule told name rows (BadImage n) has h = absurd h
+not_rows told name rows (TooLarge room n) has h = absurd h
+not_rows told name rows NoMemory has h = absurd h
+not_rows told name rows (BadImage n) has h = absurd h
+
+not_schedule : (told : Told) (name : Option (List ℕ)) (rows : List Due) (s : Status) → HasSchedule told name rows → ScheduleStops told name s → s ≡ ReadFault
+not_schedule told None rows s has h = absurd h
+not_schedule told (Some name) rows s has h = not_rows told name rows s has h
 
 module _ (one : OneExpansion) (told : Told) (app : List ℕ) (writes : List Constant) (source : IsSource told app writes) where
   not_stopped : (e : Fault) (known : Known) → IsAnswer (Err e) → IsStopped told app e known → ⊥
@@ -195,21 +199,27 @@ module _ (one : OneExpansion) (told : Told) (app : List ℕ) (writes : List Cons
   not_source (fault.TooLarge room n) known h = absurd (not_stopped (fault.TooLarge room n) known tt h)
   not_source fault.NoMemory known h = inr refl
 
-module _ (one : OneExpansion) (told : Told) (words : List (List ℕ)) (good : IsDone told words) where
+module _ (one : OneExpansion) (told : Told) where
   not_subject : (mode : Mode) (name : List ℕ) (s : Status) → HasSubject told mode name → SubjectStops told mode name s → (s ≡ ReadFault) ⊎ (s ≡ NoMemory)
   not_subject Run name s has h = subst (λ x. (x ≡ ReadFault) ⊎ (x ≡ NoMemory)) (sym h.answer) (not_source one told name has.1.writes has.1.source h.fault h.known h.stopped)
   not_subject Mote name s has h = inl (not_image told name has.0 s has.1 h)
 
-  only_faults : (s : Status) → Stops told words s → (s ≡ ReadFault) ⊎ (s ≡ NoMemory)
-  only_faults s m =
-      let same = one_request words m.asked good.asked m.words_are good.words_are in
+  -- good files stop no request
+  unstopped : (words : List (List ℕ)) (s : Status) (m : Stops told words s) (asked : Asked) → request m.asked ≡ asked → IsReady told asked → (s ≡ ReadFault) ⊎ (s ≡ NoMemory)
+  unstopped words s m (request r) e ready =
+      let same : m.asked ≡ r = cc in
       ⊎_elim
-      (λ h. not_subject good.asked.mode good.asked.subject s good.subject (subst (λ (a : Asked). SubjectStops told a.mode a.subject s) same h))
-      (λ h. inl (not_schedule told good.asked.schedule good.rows s good.schedule (subst (λ (a : Asked). ScheduleStops told a.schedule s) same h.1)))
+      (λ h. not_subject r.mode r.subject s ready.subject (subst (λ (a : Requested). SubjectStops told a.mode a.subject s) same h))
+      (λ h. inl (not_schedule told r.schedule ready.rows s ready.schedule (subst (λ (a : Requested). ScheduleStops told a.schedule s) same h.1)))
       m.cause
+  unstopped words s m help e ready = absurd (let k : request m.asked ≡ help = e in cc)
+  unstopped words s m version e ready = absurd (let k : request m.asked ≡ version = e in cc)
 
+module _ (one : OneExpansion) (told : Told) (words : List (List ℕ)) (good : IsDone told words) where
   only_read : (s : Status) → (s ≡ NoMemory → ⊥) → Stops told words s → (s ≡ Done) ⊎ (s ≡ ReadFault)
-  only_read s other m = ⊎_elim inr (λ e. absurd (other e)) (only_faults s m)
+  only_read s other m =
+      ⊎_elim inr (λ e. absurd (other e))
+      (unstopped one told words s m good.asked (one_request words (request m.asked) good.asked m.words_are good.words_are) good.ready)
 
   -- what is due is a run, or a fault of reading
   pub done_or_fault : (status : Status) (o : Option Told) (board : BoardState) (text : List ℕ) → HasText o words board status text → HasCause told words status → (status ≡ Done) ⊎ (status ≡ ReadFault)

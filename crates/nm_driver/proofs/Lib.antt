@@ -3,7 +3,6 @@ pub mod Headline
 pub mod Numerals
 pub mod Ports
 pub mod Reading
-pub mod Requests
 pub mod Statements
 pub mod WordLists
 pub mod Written

@@ -1,5 +1,5 @@
 -- The answer of the top call, by what was prepared and what the sink took.
-use Rattle.std.proofs.Common.{◌≡◌, ◌⊎◌, inl, inr, ⊎_elim, ℕ, List, Some, refl, sym, ap, subst}
+use Rattle.std.proofs.Common.{◌≡◌, ◌⊎◌, inl, inr, ⊎_elim, ℕ, List, [], Some, None, refl, sym, ap, subst}
 use Rattle.nm_base.specs.Outside.{AppendsPart, FilesSeen, Rose, SinkSeen, appended}
 use Rattle.nesc_preproc.specs.Expands.{Told}
 use Rattle.nesc_preproc.specs.OneExpansion.{OneExpansion}
@@ -8,21 +8,26 @@ use Rattle.nm_driver.specs.declared.answer.Stop.{Stop}
 use Rattle.nm_driver.specs.declared.answer.Stop.TheVariants as stop
 use Rattle.nm_driver.specs.declared.status.Status.{Status}
 use Rattle.nm_driver.specs.declared.status.Status.TheVariants.{Done, Refused, Usage, Missing, ReadFault, WriteFault, BadSchedule, Limit, TooLarge, NoMemory, BadImage}
-use Rattle.nm_driver.specs.Output.{HasText, IfMissing, IsAnswer, IsDone, IsDue, IsOutput, Wrote}
-use Rattle.nm_driver.specs.Prepared.{Ends, IfSays, IsRunStatus, Performs, line_of}
+use Rattle.nm_driver.specs.Output.{HasText, IfMissing, IsAnswer, IsDone, IsDue, IsOutput, IsReady, IsTextOf, IsUsageOrLess, Wrote}
+use Rattle.nm_driver.specs.Prepared.{Ends, IfSays, IsRunStatus, Performs, TakesAnswer, line_of}
+use Rattle.nm_words.specs.Asked.{Asked, AreInUse, help, request, version}
+use Rattle.nm_driver.specs.Lines.{answer_line}
 use Rattle.nm_driver.proofs.Causes.{done_or_fault, has_subject}
 
 module _ (words : List (List ℕ)) (board : BoardState) (files files' : FilesSeen) (out out' : SinkSeen) (same : files'.texts ≡ files.texts) where
   -- ---- a run
 
-  done_of : (text : List ℕ) → IsOutput files.texts words board text → (told : Told) → files.texts ≡ Some told → IsDone told words
-  done_of text o told h = record {
-    asked = o.asked;
-    words_are = o.words_are;
-    subject = has_subject files.texts told h o.asked.mode o.asked.subject board o.rows o.asked.budget text o.prints;
-    rows = o.rows;
-    schedule = o.schedule told h;
+  ready_of : (told : Told) → files.texts ≡ Some told → (asked : Asked) (text : List ℕ) → IsTextOf files.texts asked board text → IsReady told asked
+  ready_of told h (request r) text t = record {
+    subject = has_subject files.texts told h r.mode r.subject board t.rows r.budget text t.prints;
+    rows = t.rows;
+    schedule = t.schedule told h;
   }
+  ready_of told h help text t = tt
+  ready_of told h version text t = tt
+
+  done_of : (text : List ℕ) → IsOutput files.texts words board text → (told : Told) → files.texts ≡ Some told → IsDone told words
+  done_of text o told h = record { asked = o.asked; words_are = o.words_are; ready = ready_of told h o.asked text o.is_text }
 
   run_due : (text : List ℕ) → IsOutput files.texts words board text → IsDue files.texts words board Done text
   run_due text o = record {
@@ -125,3 +130,24 @@ module _ (words : List (List ℕ)) (board : BoardState) (files files' : FilesSee
       (λ h. answered one a.status (line_of a) (due board) failed missed r h.0 h.1)
       (λ k. ⊎_elim (λ h. cut_off a.status (line_of a) (due board) r h.0 h.1 h.2) (λ h. unanswered r h.0 h.1) k)
       ends
+
+  -- the words are not in use
+  pub not_in_use : (AreInUse words → ⊥) → (stopped : Stop) → stopped ≡ stop.Says (record { status = Usage; file = None }) → (r : Status) → Ends stopped r out out' → IsAnswer words board r files files' out out'
+  not_in_use none stopped is r ends =
+      let line : List ℕ = answer_line [] Usage in
+      let due : IsDue files.texts words board Usage line = record { is_text = refl; cause = λ told e. none; usage = λ e. none; not_usage = λ n. tt } in
+      let said : TakesAnswer Usage r out out' line = subst (λ x. Ends x r out out') is ends in
+      ⊎_elim
+      (λ h. subst (λ x. IsAnswer words board x files files' out out') (sym h.0) (record {
+        same = same;
+        read_fault = λ e. absurd (let k : Usage ≡ ReadFault = e in cc);
+        write_fault = λ e. absurd (let k : Usage ≡ WriteFault = e in cc);
+        missing = tt;
+        usage = λ e. none;
+        not_usage = λ n. tt;
+        cause = λ told e. none;
+        complete = λ told e good. absurd (none (good.asked, good.words_are));
+        output = (line, refl, h.1);
+      }))
+      (λ k. ⊎_elim (λ h. cut_off Usage line due r h.0 h.1 h.2) (λ h. unanswered r h.0 h.1) k)
+      said

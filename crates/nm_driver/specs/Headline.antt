@@ -13,33 +13,33 @@ use Rattle.mote_bus.specs.Mote.{mote}
 use Rattle.preempt_core.specs.Allowed.{Allowed}
 use Rattle.mote_text.specs.ImageLines.{image_of}
 use Rattle.mote_text.specs.ImageText.{image_text}
-use Rattle.nm_driver.specs.declared.words.Mode.TheVariants.{Run}
+use Rattle.nm_words.specs.declared.mode.Mode.TheVariants.{Run}
 use Rattle.nm_driver.specs.declared.status.Status.TheVariants.{Done}
-use Rattle.nm_driver.specs.Words.{Asked, AreWords}
+use Rattle.nm_words.specs.Asked.{AreWords, Requested, request}
 use Rattle.nm_driver.specs.NamedFiles.{HasProgram}
 use Rattle.nm_driver.specs.RunText.{run_text}
 use Rattle.nm_driver.specs.Output.{IsAnswer}
 
 -- the text has an image of the application's wired program, with its data and stack, and the image's run on a board
-pub record RunsItsSource (files : Told) (asked : Asked) (board : BoardState) (text : List ℕ) : Type 0 where
+pub record RunsItsSource (files : Told) (asked : Requested) (board : BoardState) (text : List ℕ) : Type 0 where
   pub program : Program
   pub has : HasProgram files asked.subject program
   pub code : List ℕ
   pub vectors : List ℕ
-  pub data : ℕ
+  pub ram : ℕ
   pub stack : ℕ
   pub rows : List Due
-  pub printed : text ≡ run_text code vectors data stack board rows asked.budget
+  pub printed : text ≡ run_text code vectors ram stack board rows asked.budget
   -- whoever reads the image's lines runs this image
   pub reads_back : image_of (image_text code vectors) ≡ Ok (image_map code vectors)
   -- on every board, with every schedule, after every number of slots it has done what some run of the program does, at its pace ..
   pub allowed : (b : BoardState) (rows : List Due) (n : ℕ) → Allowed (source_of program) (pace_of_program program) b (mote (image_map code vectors) b rows) n
   -- .. within its stack
   pub bounded : (b : BoardState) (rows : List Due) (n : ℕ) → RAM_END ≤ (mote (image_map code vectors) b rows n).least + stack
-  pub fits : data + stack ≤ RAM_BYTES
+  pub fits : ram + stack ≤ RAM_BYTES
 
 -- Where the top call is done with an application, and files and sink tell what they have, the sink has taken such a text
 abbrev pub PrintedImageRunsItsSource : Type 0
-PrintedImageRunsItsSource = (words : List (List ℕ)) (asked : Asked) (board : BoardState) (seen seen' : FilesSeen) (out out' : SinkSeen) (files : Told) (before : List ℕ)
-    → AreWords words asked → asked.mode ≡ Run → seen.texts ≡ Some files → out.taken ≡ Some before → IsAnswer words board Done seen seen' out out'
+PrintedImageRunsItsSource = (words : List (List ℕ)) (asked : Requested) (board : BoardState) (seen seen' : FilesSeen) (out out' : SinkSeen) (files : Told) (before : List ℕ)
+    → AreWords words (request asked) → asked.mode ≡ Run → seen.texts ≡ Some files → out.taken ≡ Some before → IsAnswer words board Done seen seen' out out'
     → (text : List ℕ) × (out'.taken ≡ Some (before ++ text)) × RunsItsSource files asked board text

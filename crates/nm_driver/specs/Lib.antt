@@ -1,7 +1,6 @@
 pub mod Tokens
 pub mod Form
 pub mod Status
-pub mod Words
 pub mod Lines
 pub mod RunText
 pub mod NamedFiles

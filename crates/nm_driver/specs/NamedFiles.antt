@@ -1,5 +1,5 @@
 -- What the files that the words name give, and why one of them stops the call (own).
-use Rattle.std.specs.Prelude.{◌≡◌, ◌<◌, ◌≤◌, ◌⊎◌, ℕ, ◌+◌, List, ◌++◌, Some, None, Result, Ok, Err, length, map, codes}
+use Rattle.std.specs.Prelude.{◌≡◌, ◌<◌, ◌≤◌, ◌⊎◌, ℕ, ◌+◌, List, [], ◌++◌, Option, Some, None, Result, Ok, Err, length, map, codes}
 use Rattle.nm_base.specs.declared.limit.TheConstants.{MAX_FILE, MAX_SCHEDULE}
 use Rattle.nm_base.specs.declared.limit.Limit.{Limit as LimitOf}
 use Rattle.nm_base.specs.declared.limit.Which.TheVariants as which
@@ -19,8 +19,8 @@ use Rattle.nesc_core.specs.Plain.{Program}
 use Rattle.core_meaning.specs.BootBody.{constant_writes_program}
 use Rattle.nm_driver.specs.Form.{HasForm, constant_of}
 use Rattle.nm_driver.specs.declared.form.Constant.{Constant}
-use Rattle.nm_driver.specs.declared.words.Mode.{Mode}
-use Rattle.nm_driver.specs.declared.words.Mode.TheVariants.{Run, Mote}
+use Rattle.nm_words.specs.declared.mode.Mode.{Mode}
+use Rattle.nm_words.specs.declared.mode.Mode.TheVariants.{Run, Mote}
 use Rattle.nm_driver.specs.declared.status.Status.{Status}
 use Rattle.nm_driver.specs.declared.status.Status.TheVariants as status
 use Rattle.nm_driver.specs.declared.status.Status.TheVariants.{Missing, ReadFault, BadSchedule, Limit, BadImage}
@@ -68,10 +68,19 @@ pub record HasBadRow (told : Told) (name : List ℕ) (line : ℕ) : Type 0 where
   pub read : IsRead told name text
   pub first : schedule_of text ≡ Err line
 
-abbrev pub ScheduleStops : Told → List ℕ → Status → Type 0
-ScheduleStops told name (BadSchedule line) = HasBadRow told name line
-ScheduleStops told name (Limit limit) = IsTooLarge told name limit ⊎ HasManyRows told name limit
-ScheduleStops told name status = FileStops told name status
+abbrev pub RowsStop : Told → List ℕ → Status → Type 0
+RowsStop told name (BadSchedule line) = HasBadRow told name line
+RowsStop told name (Limit limit) = IsTooLarge told name limit ⊎ HasManyRows told name limit
+RowsStop told name status = FileStops told name status
+
+-- the rows of the file that is named; where none is, there are none
+abbrev pub HasSchedule : Told → Option (List ℕ) → List Due → Type 0
+HasSchedule told None rows = rows ≡ []
+HasSchedule told (Some name) rows = HasRows told name rows
+
+abbrev pub ScheduleStops : Told → Option (List ℕ) → Status → Type 0
+ScheduleStops told None status = ⊥
+ScheduleStops told (Some name) status = RowsStop told name status
 
 -- ---- an image
 

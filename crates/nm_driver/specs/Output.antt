@@ -10,30 +10,41 @@ use Rattle.mote_devices.specs.declared.state.BoardState.{BoardState}
 use Rattle.mote_devices.specs.declared.shown.Due.{Due}
 use Rattle.nesc_core.specs.Plain.{Program}
 use Rattle.mote_run.specs.RunText.{mote_text}
-use Rattle.nm_driver.specs.Words.{Asked, AreWords, AreInUse}
+use Rattle.nm_words.specs.Asked.{Asked, AreInUse, AreWords, Requested, help, request, version}
+use Rattle.nm_words.specs.Texts.{help_text, version_text}
 use Rattle.nm_driver.specs.Lines.{answer_line}
 use Rattle.nm_driver.specs.RunText.{run_text}
 use Rattle.nm_driver.specs.MeetsProgram.{MeetsProgram}
-use Rattle.nm_driver.specs.NamedFiles.{HasImage, HasProgram, HasRows, HasSubject, IsStopped, ScheduleStops, SubjectStops, source_file}
-use Rattle.nm_driver.specs.declared.words.Mode.{Mode}
-use Rattle.nm_driver.specs.declared.words.Mode.TheVariants.{Run, Mote}
+use Rattle.nm_driver.specs.NamedFiles.{HasImage, HasProgram, HasSchedule, HasSubject, IsStopped, ScheduleStops, SubjectStops, source_file}
+use Rattle.nm_words.specs.declared.mode.Mode.{Mode}
+use Rattle.nm_words.specs.declared.mode.Mode.TheVariants.{Run, Mote}
 use Rattle.nm_driver.specs.declared.status.Status.{Status}
 use Rattle.nm_driver.specs.declared.status.Status.TheVariants.{Done, Refused, Usage, Missing, ReadFault, WriteFault, NoMemory}
 
 -- ---- causes
 
--- the words are in use, and their files are good
+-- the files of a request are good
+pub record IsGood (told : Told) (r : Requested) : Type 0 where
+  pub subject : HasSubject told r.mode r.subject
+  pub rows : List Due
+  pub schedule : HasSchedule told r.schedule rows
+
+-- nothing is needed for the help and the version
+abbrev pub IsReady : Told → Asked → Type 0
+IsReady told (request r) = IsGood told r
+IsReady told help = Unit {0}
+IsReady told version = Unit {0}
+
+-- the words are in use, and the files that they name are good
 pub record IsDone (told : Told) (words : List (List ℕ)) : Type 0 where
   pub asked : Asked
   pub words_are : AreWords words asked
-  pub subject : HasSubject told asked.mode asked.subject
-  pub rows : List Due
-  pub schedule : HasRows told asked.schedule rows
+  pub ready : IsReady told asked
 
 -- the words are in use, and a file stops the call: that of what is run, or else the schedule
 pub record Stops (told : Told) (words : List (List ℕ)) (status : Status) : Type 0 where
-  pub asked : Asked
-  pub words_are : AreWords words asked
+  pub asked : Requested
+  pub words_are : AreWords words (request asked)
   pub cause : SubjectStops told asked.mode asked.subject status ⊎ (HasSubject told asked.mode asked.subject × ScheduleStops told asked.schedule status)
 
 -- where each answer comes, for files that are told. Faults of reading and writing come where a count rose; want of memory is free
@@ -74,13 +85,22 @@ Prints told Run app board rows budget text =
 Prints told Mote name board rows budget text =
     (image : ℕ → ℕ) × (text ≡ mote_text image board rows budget) × ((files : Told) → told ≡ Some files → HasImage files name image)
 
--- what the words ask for, on the board that was handed in
+-- what a request asks for, on the board that was handed in
+pub record IsRun (told : Option Told) (r : Requested) (board : BoardState) (text : List ℕ) : Type 0 where
+  pub rows : List Due
+  pub prints : Prints told r.mode r.subject board rows r.budget text
+  pub schedule : (files : Told) → told ≡ Some files → HasSchedule files r.schedule rows
+
+abbrev pub IsTextOf : Option Told → Asked → BoardState → List ℕ → Type 0
+IsTextOf told (request r) board text = IsRun told r board text
+IsTextOf told help board text = text ≡ help_text
+IsTextOf told version board text = text ≡ version_text
+
+-- what the words ask for
 pub record IsOutput (told : Option Told) (words : List (List ℕ)) (board : BoardState) (text : List ℕ) : Type 0 where
   pub asked : Asked
   pub words_are : AreWords words asked
-  pub rows : List Due
-  pub prints : Prints told asked.mode asked.subject board rows asked.budget text
-  pub schedule : (files : Told) → told ≡ Some files → HasRows files asked.schedule rows
+  pub is_text : IsTextOf told asked board text
 
 -- the name of the file in which a refusal stands
 abbrev pub file_of : Known → List ℕ → Refusal → List ℕ
@@ -88,8 +108,8 @@ file_of known file r = unwrap_or (slice_get known.names (refusal_pos r).file) fi
 
 -- the line of a refusal, with the name of its file
 pub record IsRefusalLine (told : Option Told) (words : List (List ℕ)) (r : Refusal) (text : List ℕ) : Type 0 where
-  pub asked : Asked
-  pub words_are : AreWords words asked
+  pub asked : Requested
+  pub words_are : AreWords words (request asked)
   pub runs : asked.mode ≡ Run
   pub known : Known
   pub line : text ≡ answer_line (file_of known (source_file asked.subject) r) (Refused r)

@@ -22,8 +22,8 @@ use Rattle.nm_driver.specs.declared.subject.Subject.{Subject}
 use Rattle.nm_driver.specs.declared.prepared.Prepared.{Prepared}
 use Rattle.mote_text.specs.declared.text_fault.TextFault.{TextFault}
 use Rattle.mote_text.specs.declared.text_fault.TextFault.TheVariants as text
-use Rattle.nm_driver.specs.declared.words.Mode.{Mode}
-use Rattle.nm_driver.specs.declared.words.Mode.TheVariants.{Run, Mote}
+use Rattle.nm_words.specs.declared.mode.Mode.{Mode}
+use Rattle.nm_words.specs.declared.mode.Mode.TheVariants.{Run, Mote}
 use Rattle.nm_driver.specs.declared.status.Status.{Status}
 use Rattle.nm_driver.specs.declared.status.Status.TheVariants.{Done, Missing, ReadFault, WriteFault, BadSchedule, Limit, NoMemory, BadImage}
 use Rattle.nm_driver.specs.Lines.{answer_line}

@@ -16,5 +16,6 @@ pub(crate) fn compile(alloc: Global, application: &Application) -> Result<Image,
     requires wired { IsApplication application.now }
     ensures meets { IfOk result (λ i. MeetsProgram (program_of application.now.program) i.code.items i.vectors i.ram i.stack) }
 {
-    image_of(alloc, &application.writes)
+    let image = image_of(alloc, &application.writes)?;
+    Ok(image)
 }

@@ -1,11 +1,12 @@
 //! What the files of schedules and images give.
 
 ghost use Rattle.std.specs.Prelude.{◌≡◌, [], Some, IfOk, IfErr};
+ghost use Rattle.std.specs.Option.{option_map};
 ghost use Rattle.mote_run.specs.Rows.{DoNotFall};
 ghost use Rattle.nesc_preproc.specs.Expands.{Told};
 ghost use Rattle.msp_isa.specs.Image.{bytes_map};
 ghost use Rattle.nm_driver.specs.Lines.{answer_line};
-ghost use Rattle.nm_driver.specs.NamedFiles.{FileStops, HasImage, HasRows, ImageStops, IsRead, ScheduleStops};
+ghost use Rattle.nm_driver.specs.NamedFiles.{FileStops, HasImage, HasRows, HasSchedule, ImageStops, IsRead, RowsStop, ScheduleStops};
 ghost use Rattle.nm_driver.specs.Prepared.{IfSays, IsTextFault, Reads, SaysOf, line_of, text_status};
 
 use crate::answer::{Stop, says};
@@ -51,8 +52,8 @@ fn text_fault(fault: TextFault) -> Stop
     }
 }
 
-/// The rows of a schedule's file.
-pub(crate) fn read_rows<F: Files>(
+// The rows of a schedule's file.
+fn read_rows<F: Files>(
     alloc: Global,
     files: &mut F,
     name: &str,
@@ -60,12 +61,29 @@ pub(crate) fn read_rows<F: Files>(
     ensures outside { Reads result (F.seen files.old) (F.seen files.new) }
     ensures order { IfOk result (λ rows. DoNotFall rows.items) }
     ensures rows { IfOk result (λ rows. (told : Told) → (F.seen files.old).texts ≡ Some told → HasRows told name.now rows.items) }
-    ensures says { IfErr result (λ s. IfSays s (SaysOf (F.seen files.old).texts (λ told. ScheduleStops told name.now))) }
+    ensures says { IfErr result (λ s. IfSays s (SaysOf (F.seen files.old).texts (λ told. RowsStop told name.now))) }
 {
     let text = read_file(alloc, files, name)?;
     match read_schedule(alloc, &text) {
         Ok(rows) => Ok(rows),
         Err(fault) => Err(text_fault(fault)),
+    }
+}
+
+/// The rows of the schedule, where one is named.
+pub(crate) fn rows_of<F: Files>(
+    alloc: Global,
+    files: &mut F,
+    schedule: Option<&str>,
+) -> Result<Vec<Due>, Stop>
+    ensures outside { Reads result (F.seen files.old) (F.seen files.new) }
+    ensures order { IfOk result (λ rows. DoNotFall rows.items) }
+    ensures rows { IfOk result (λ rows. (told : Told) → (F.seen files.old).texts ≡ Some told → HasSchedule told (option_map (λ s. s.now) schedule.entry) rows.items) }
+    ensures says { IfErr result (λ s. IfSays s (SaysOf (F.seen files.old).texts (λ told. ScheduleStops told (option_map (λ s. s.now) schedule.entry)))) }
+{
+    match schedule {
+        Some(name) => read_rows(alloc, files, name),
+        None => Ok(Vec::new(alloc)),
     }
 }
 

@@ -14,7 +14,6 @@ mod subject;
 mod tokens;
 mod top_call;
 mod wired;
-mod words;
 
 pub use laws::printed_image_runs_its_source;
 pub use status::Status;

@@ -1,18 +1,18 @@
-//! From the words of a command line to a run that is due, or to an answer.
+//! From what a command line asks for to a run that is due, or to an answer.
 
-ghost use Rattle.std.specs.Prelude.{map, string_bytes, IfOk, IfErr};
+ghost use Rattle.std.specs.Prelude.{ℕ, List, IfOk, IfErr};
 ghost use Rattle.mote_devices.specs.declared.state.BoardState.{BoardState};
 ghost use Rattle.mote_run.specs.Rows.{DoNotFall};
-ghost use Rattle.nm_driver.specs.Output.{IsDue, IsOutput};
+ghost use Rattle.nm_words.specs.Asked.{AreWords, request, requested};
+ghost use Rattle.nm_driver.specs.Output.{IsDue, IsRun};
 ghost use Rattle.nm_driver.specs.Prepared.{IfSays, Reads, line_of, text_on};
 
-use crate::answer::{Stop, says};
-use crate::files::read_rows;
-use crate::status::Status;
+use crate::answer::Stop;
+use crate::files::rows_of;
 use crate::subject::{Subject, subject_of};
-use crate::words::request_of;
 use mote_devices::Due;
 use nm_base::Files;
+use nm_words::Request;
 use std::alloc::Global;
 
 /// A run that is due: what is run, the rows of its schedule, and its number of slots.
@@ -23,25 +23,23 @@ pub(crate) struct Prepared {
     pub budget: u32,
 }
 
-/// What the words ask for, from their files.
+/// What a request asks for, from its files.
 pub(crate) fn prepare<F: Files>(
     alloc: Global,
-    words: &[String],
+    wanted: Request,
     files: &mut F,
 ) -> Result<Prepared, Stop>
     ensures outside { Reads result (F.seen files.old) (F.seen files.new) }
     ensures order { IfOk result (λ p. DoNotFall p.rows.items) }
-    ensures output { IfOk result (λ p. (board : BoardState) → IsOutput (F.seen files.old).texts (map string_bytes words.now) board (text_on board p)) }
-    ensures says { IfErr result (λ s. IfSays s (λ a. (board : BoardState) → IsDue (F.seen files.old).texts (map string_bytes words.now) board a.status (line_of a))) }
+    ensures output { IfOk result (λ p. (board : BoardState) → IsRun (F.seen files.old).texts (requested wanted.entry) board (text_on board p)) }
+    ensures says { IfErr result (λ s. IfSays s (λ a. (words : List (List ℕ)) → AreWords words (request (requested wanted.entry)) → (board : BoardState)
+        → IsDue (F.seen files.old).texts words board a.status (line_of a))) }
 {
-    let Some(request) = request_of(words) else {
-        return Err(says(Status::Usage));
-    };
-    let subject = subject_of(alloc, files, request.mode, request.subject)?;
-    let rows = read_rows(alloc, files, request.schedule)?;
+    let subject = subject_of(alloc, files, wanted.mode, wanted.subject)?;
+    let rows = rows_of(alloc, files, wanted.schedule)?;
     Ok(Prepared {
         subject,
         rows,
-        budget: request.budget,
+        budget: wanted.budget,
     })
 }

@@ -8,10 +8,10 @@ use crate::answer::Stop;
 use crate::compile::compile;
 use crate::files::read_loaded;
 use crate::source::read_application;
-use crate::words::Mode;
 use mote_text::{Loaded, load_image};
 use msp_isa::Image;
 use nm_base::{Files, NoMemory};
+use nm_words::Mode;
 use std::alloc::Global;
 
 /// What is printed of an application before its trace: the report with the bytes of data and of stack, and the image.

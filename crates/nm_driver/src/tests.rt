@@ -5,6 +5,7 @@ ghost use Rattle.std.specs.Prelude.{◌≤◌, IfOk, vec_len};
 use crate::tool;
 use mote_devices::{Device, Leds, Radio, Sensor, Serial, Timer};
 use nm_base::{List, MemFiles, MemSink, Name, NoMemory};
+use nm_words::{HELP, VERSION};
 use std::alloc::Global;
 use std::test::Fail;
 
@@ -176,7 +177,7 @@ fn answer(
 // Words, the status, and the text in its parts.
 type Case<'a> = (&'a [&'a str], u8, [&'a str; 2]);
 
-const CASES: [Case; 33] = [
+const CASES: [Case; 37] = [
     (&["run", "OneC", "none.txt"], 0, [FIRST_IMAGE, FIRST_TRACE]),
     (&["run", "OneC", "blank.txt"], 0, [FIRST_IMAGE, FIRST_TRACE]),
     (
@@ -212,10 +213,18 @@ const CASES: [Case; 33] = [
         [USAGE, ""],
     ),
     (
-        &["run", "OneC", "none.txt", "--budget", "01"],
-        2,
-        [USAGE, ""],
+        &["run", "OneC", "none.txt", "--budget=0"],
+        0,
+        [FIRST_IMAGE, "end slots 0 ran 0 sp 3900 off 0\n"],
     ),
+    (
+        &["--budget", "0", "run", "OneC", "none.txt"],
+        0,
+        [FIRST_IMAGE, "end slots 0 ran 0 sp 3900 off 0\n"],
+    ),
+    (&["run", "-x", "none.txt"], 2, [USAGE, ""]),
+    (&["--help"], 0, [HELP, ""]),
+    (&["--version"], 0, [VERSION, ""]),
     (&["run", "OneC", "none.txt", "--slots", "1"], 2, [USAGE, ""]),
     (&["run", "NoneC", "none.txt"], 3, ["missing NoneC.nc\n", ""]),
     (&["run", "OneC", "gone.txt"], 3, ["missing gone.txt\n", ""]),

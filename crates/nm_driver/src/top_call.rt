@@ -1,16 +1,16 @@
 //! The top call: from the words of a command line to what is written.
 
-ghost use Rattle.std.specs.Prelude.{◌≡◌, ◌≤◌, map, string_bytes, vec_len};
+ghost use Rattle.std.specs.Prelude.{◌≡◌, ◌≤◌, ℕ, List, map, string_bytes, vec_len};
 ghost use Rattle.nm_base.specs.Outside.{Writes};
 ghost use Rattle.mote_bus.specs.Slots.{board_of};
 ghost use Rattle.msp_isa.specs.Image.{bytes_map};
 ghost use Rattle.mote_run.specs.Held.{IsFresh, board_in, image_in};
 ghost use Rattle.mote_run.specs.Rows.{DoNotFall};
-ghost use Rattle.nm_base.specs.Outside.{Writes};
+ghost use Rattle.nm_words.specs.Asked.{AreWords, request, requested};
 ghost use Rattle.nm_driver.specs.Output.{IsAnswer};
 ghost use Rattle.nm_driver.specs.Prepared.{Ends, IsRunStatus, Performs, head_bytes, text_on};
 
-use crate::answer::{Stop, line_of};
+use crate::answer::{Stop, line_of, says};
 use crate::prepared::{Prepared, prepare};
 use crate::status::Status;
 use crate::subject::Head;
@@ -20,12 +20,13 @@ use mote_run::{AsMote, BoardMote, MoteOf};
 use mote_text::print_image;
 use nesc_preproc::one_expansion;
 use nm_base::{Files, Sink, WriteFault, write_all};
+use nm_words::{Asked, HELP, Request, VERSION, WordsFault, asked_by};
 use std::alloc::Global;
 
-/// Runs an image on a mote with these devices in its first slots, at most eight. `words` are those behind the program's
-/// name: `run APP SCHEDULE`, which compiles the application of the file `APP.nc` and prints its image first, or
-/// `mote IMAGE SCHEDULE`, of which the image stands in a file; and then `--budget N`, the number of slots, or nothing
-/// for 10,000.
+/// Does what the words behind the program's name ask for, on a mote with these devices in its first slots, at most eight:
+/// `run APP SCHEDULE` compiles the application of the file `APP.nc`, prints its image and runs it; `mote IMAGE SCHEDULE`
+/// runs an image that stands in a file. `--budget N` is the number of slots, 10,000 where it is left out. `--help` and
+/// `--version` print their texts.
 pub fn tool<F: Files, S: Sink>(
     alloc: Global,
     words: &[String],
@@ -37,10 +38,41 @@ pub fn tool<F: Files, S: Sink>(
     ensures { IsAnswer (map string_bytes words.now) (board_of (map ⟦<Box<dyn Device> as Device>⟧.state board.items)) result
         (F.seen files.old) (F.seen files.new) (S.seen out.old) (S.seen out.new) }
 {
+    match asked_by(alloc, words) {
+        Ok(Asked::Request(wanted)) => answer_request(alloc, wanted, files, out, board),
+        Ok(Asked::Help) => write_text(out, HELP),
+        Ok(Asked::Version) => write_text(out, VERSION),
+        Err(WordsFault::Usage) => write_answer(alloc, says(Status::Usage), out),
+        Err(WordsFault::NoMemory) => Status::NoMemory,
+    }
+}
+
+fn answer_request<F: Files, S: Sink>(
+    alloc: Global,
+    wanted: Request,
+    files: &mut F,
+    out: &mut S,
+    board: Vec<Box<dyn Device>>,
+) -> Status
+    requires devices { vec_len board ≤ 8 }
+    ensures { (words : List (List ℕ)) → AreWords words (request (requested wanted.entry)) →
+        IsAnswer words (board_of (map ⟦<Box<dyn Device> as Device>⟧.state board.items)) result (F.seen files.old) (F.seen files.new) (S.seen out.old) (S.seen out.new) }
+{
     one_expansion();
-    match prepare(alloc, words, files) {
+    match prepare(alloc, wanted, files) {
         Ok(prepared) => perform(alloc, &prepared, board, out),
         Err(stop) => write_answer(alloc, stop, out),
+    }
+}
+
+// Writes a text of the command line's own.
+fn write_text<S: Sink>(out: &mut S, text: &str) -> Status
+    ensures kind { IsRunStatus result }
+    ensures wrote { Performs result (S.seen out.old) (S.seen out.new) text.now }
+{
+    match write_all(out, text.as_bytes()) {
+        Ok(()) => Status::Done,
+        Err(WriteFault) => Status::WriteFault,
     }
 }
 

@@ -1,6 +1,7 @@
-use Rattle.std.proofs.Common.{◌≡◌, subst, sym, ap, ◌∙◌}
+use Rattle.std.proofs.Common.{map, ap, ◌∙◌}
+use Rattle.nm_driver.specs.Form.{port_write_of}
 use Rattle.nm_driver.specs.NamedFiles.{wired}
-use Rattle.nm_driver.proofs.Writable.{few_writes, good_writes}
+use Rattle.nm_driver.proofs.Writable.{good_writes}
 use Rattle.nm_driver.proofs.source.read_application.Goals as goal
 
 pub returns-clause-wired : goal.returns-clause-wired
@@ -9,10 +10,10 @@ returns-clause-wired g c =
     record {
       app = c.args.app.now;
       constants = c.in_ok-writes.writes.items;
-      few = few_writes form;
+      few = form.few;
       good = good_writes form.body c.in_ok-writes.writes.items form.statements;
       program = c.in_ok-wired_program.ensures ∙ ap (wired c.args.app.now) c.deref.ensures.value;
-      writes = c.in_ok-port_writes.ensures;
+      writes = c.in_ok-port_writes.ensures ∙ ap (map port_write_of) c.deref-2.ensures.value;
     }
 
 pub returns-clause-program : goal.returns-clause-program

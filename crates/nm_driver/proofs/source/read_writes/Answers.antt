@@ -22,7 +22,7 @@ returns-in-Err-clause-says g c =
       known = known;
       found = found;
       is_status = status;
-      is_line = line ∙ ap (λ n. answer_line n (status_of e)) c.fault_file.ensures ∙ ap (λ n. answer_line (fault_file known n e) (status_of e)) file;
+      is_line = line ∙ ap (λ n. answer_line n (status_of e)) c.in_ok-fault_file-in-Err.ensures ∙ ap (λ n. answer_line (fault_file known n e) (status_of e)) file;
       source = λ files h. inl (subst (λ n. Expands files (Some nothing_known) n (Err e) (Some known)) file
           (reads_fault files c.in_ok-file-2.file e c.expand.new.state found (rw c.new-reading.ensures at c.in-Err.ensures.expanded files h)));
     })
@@ -55,7 +55,7 @@ returns-clause-says g c =
       known = known;
       found = λ h. h;
       is_status = status ∙ ap status_of cause;
-      is_line = line ∙ ap (λ n. answer_line n (status_of c.later-fault.result)) c.fault_file-in-None.ensures ∙ ap (λ e. answer_line (fault_file known c.in_ok-file-2.file e) (status_of e)) cause ∙ ap (λ n. answer_line (fault_file known n (fault.Refused later)) (status_of (fault.Refused later))) file;
+      is_line = line ∙ ap (λ n. answer_line n (status_of c.later-fault.result)) c.in_ok-fault_file-in-None.ensures ∙ ap (λ e. answer_line (fault_file known c.in_ok-file-2.file e) (status_of e)) cause ∙ ap (λ n. answer_line (fault_file known n (fault.Refused later)) (status_of (fault.Refused later))) file;
       source = λ files h. inr (
         refl,
         record {
