@@ -16,7 +16,7 @@ use std::marker::Model;
 
 /// What a place is once its parts are evaluated: an address, or a local and an offset in it.
 #[derive(Clone, Copy, PartialEq, Eq, Debug)]
-pub(crate) enum Where {
+pub enum Where {
     At(u16),
     Within(u32, u32),
 }

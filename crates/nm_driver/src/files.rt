@@ -53,11 +53,7 @@ fn text_fault(fault: TextFault) -> Stop
 }
 
 // The rows of a schedule's file.
-fn read_rows<F: Files>(
-    alloc: Global,
-    files: &mut F,
-    name: &str,
-) -> Result<Vec<Due>, Stop>
+fn read_rows<F: Files>(alloc: Global, files: &mut F, name: &str) -> Result<Vec<Due>, Stop>
     ensures outside { Reads result (F.seen files.old) (F.seen files.new) }
     ensures order { IfOk result (λ rows. DoNotFall rows.items) }
     ensures rows { IfOk result (λ rows. (told : Told) → (F.seen files.old).texts ≡ Some told → HasRows told name.now rows.items) }

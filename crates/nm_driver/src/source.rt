@@ -97,11 +97,7 @@ fn says_fault(file: Option<Name>, fault: Fault) -> Stop
 }
 
 // The writes of an application, whose file is `app.nc`, where it has the form.
-fn read_writes<F: Files>(
-    alloc: Global,
-    files: &mut F,
-    app: &str,
-) -> Result<Vec<Constant>, Stop>
+fn read_writes<F: Files>(alloc: Global, files: &mut F, app: &str) -> Result<Vec<Constant>, Stop>
     ensures outside { Reads result (F.seen files.old) (F.seen files.new) }
     ensures form { IfOk result (λ ws. (tokens : List (List ℕ)) × HasForm app.now tokens ws.items) }
     ensures writes { IfOk result (λ ws. (told : Told) → (F.seen files.old).texts ≡ Some told → IsSource told app.now ws.items) }

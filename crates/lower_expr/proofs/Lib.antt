@@ -1,0 +1,5 @@
+pub mod Congruence
+pub mod Numbers
+pub mod Values
+pub mod Pieces
+pub mod Exprs

@@ -1,0 +1,110 @@
+-- The expressions of which it is shown so far that their code does what they do.
+use Rattle.std.specs.Prelude.{⊤, ◌≡◌, false, List, Option, Some, None, slice_get}
+use Rattle.nm_base.specs.declared.int_type.IntType.{IntType}
+use Rattle.nm_base.specs.declared.int_type.IntType.TheVariants.{I8, U8, I16, U16, I32, U32}
+use Rattle.nesc_core.specs.declared.tree.BinOp.{BinOp}
+use Rattle.nesc_core.specs.declared.tree.BinOp.TheVariants.{Add, Sub, And, Or, Xor, Eq, Ne, Lt, Le}
+use Rattle.nesc_core.specs.declared.tree.UnOp.{UnOp}
+use Rattle.nesc_core.specs.declared.tree.UnOp.TheVariants.{IsZero, Neg, Not}
+use Rattle.mid_code.specs.Help.{is_wide}
+use Rattle.lower_expr.specs.declared.spot.Spot.{Spot}
+use Rattle.lower_expr.specs.declared.spot.Spot.TheVariants.{Values, Frame}
+use Rattle.lower_expr.specs.Held.{held}
+use Rattle.nesc_core.specs.Plain.{Ty, void, int, pointer, array, struct, Expr, Place, Program}
+use Rattle.nesc_core.specs.Plain as plain
+use Rattle.nesc_core.specs.Typing.{IsPromoted}
+use Rattle.nesc_core.specs.PlaceTypes.{place_type}
+
+-- held in one value that a word or an unsigned byte fills
+abbrev pub IsWordSized : Ty → Type 0
+IsWordSized (int U8) = ⊤
+IsWordSized (int I16) = ⊤
+IsWordSized (int U16) = ⊤
+IsWordSized (pointer t) = ⊤
+IsWordSized _ = ⊥
+
+abbrev pub IsWord : IntType → Type 0
+IsWord I16 = ⊤
+IsWord U16 = ⊤
+IsWord _ = ⊥
+
+-- sums and differences of all widths, the other operations of one word
+abbrev pub CoversBin : BinOp → IntType → Type 0
+CoversBin Add t = IsPromoted t
+CoversBin Sub t = IsPromoted t
+CoversBin And t = IsWord t
+CoversBin Or t = IsWord t
+CoversBin Xor t = IsWord t
+CoversBin Eq t = IsWord t
+CoversBin Ne t = IsWord t
+CoversBin Lt t = IsWord t
+CoversBin Le t = IsWord t
+CoversBin _ t = ⊥
+
+-- not negative, in one value
+abbrev pub IsShortUnsigned : IntType → Type 0
+IsShortUnsigned U8 = ⊤
+IsShortUnsigned U16 = ⊤
+IsShortUnsigned _ = ⊥
+
+abbrev pub CoversConvert : (from to : IntType) → Type 0
+CoversConvert from U8 = ⊤
+CoversConvert from I16 = ⊤
+CoversConvert from U16 = ⊤
+CoversConvert from I32 = IsShortUnsigned from
+CoversConvert from U32 = IsShortUnsigned from
+CoversConvert from I8 = ⊥
+
+abbrev pub IsLoaded : Ty → Type 0
+IsLoaded (int I32) = ⊤
+IsLoaded (int U32) = ⊤
+IsLoaded t = IsWordSized t
+
+-- a test of at most 16 bits against 0, and the sign of one word
+abbrev pub CoversUn : UnOp → IntType → Type 0
+CoversUn IsZero t = is_wide t ≡ false
+CoversUn Neg t = IsWord t
+CoversUn Not t = ⊥
+
+abbrev pub IsInValues : Option Spot → Type 0
+IsInValues None = ⊥
+IsInValues (Some (Values regs)) = ⊤
+IsInValues (Some (Frame o)) = ⊥
+
+abbrev pub IsNumberSized : Ty → Type 0
+IsNumberSized (int U8) = ⊤
+IsNumberSized (int I16) = ⊤
+IsNumberSized (int U16) = ⊤
+IsNumberSized _ = ⊥
+
+abbrev pub IsObject : Place → Type 0
+IsObject (plain.object k) = ⊤
+IsObject _ = ⊥
+
+module _ (p : Program) (types : List Ty) (spots : List Spot) where
+  -- an object, or a local in values
+  abbrev pub IsRead : Place → Type 0
+  IsRead (plain.object k) = IsLoaded (place_type p types (plain.object k))
+  IsRead (plain.local x) = IsInValues (slice_get spots x) × IsNumberSized (place_type p types (plain.local x))
+  IsRead _ = ⊥
+
+  -- held in one value
+  abbrev pub IsShort : Expr → Type 0
+  IsShort e = is_wide (held p types e) ≡ false
+
+  abbrev pub IsCovered : Expr → Type 0
+  IsCovered (plain.const t x) = ⊤
+  IsCovered plain.null = ⊤
+  IsCovered (plain.read place at) = IsRead place
+  IsCovered (plain.un op t e) = CoversUn op t × IsCovered e
+  IsCovered (plain.bin op t a b) = CoversBin op t × IsCovered a × IsCovered b
+  IsCovered (plain.convert t e) = CoversConvert (held p types e) t × IsShort e × IsCovered e
+  IsCovered (plain.both a b) = IsShort a × IsShort b × IsCovered a × IsCovered b
+  IsCovered (plain.either a b) = IsShort a × IsShort b × IsCovered a × IsCovered b
+  IsCovered (plain.choice test a b) = IsShort test × IsCovered test × IsCovered a × IsCovered b
+  IsCovered (plain.assign place e at) = IsObject place × IsLoaded (place_type p types place) × IsCovered e
+  IsCovered (plain.post k) = ⊤
+  IsCovered (plain.port_in port) = ⊤
+  IsCovered (plain.port_out port e) = IsCovered e
+  IsCovered (plain.comma a b) = IsCovered a × IsCovered b
+  IsCovered _ = ⊥

@@ -1,0 +1,7 @@
+pub mod Held
+pub mod Pieces
+pub mod Code
+pub mod Locals
+pub mod Covered
+pub mod Runs
+pub mod Rows

@@ -1,0 +1,10 @@
+//! Expressions and places lowered to middle code.
+#![tactic(auto)]
+
+mod laws;
+mod rows;
+mod spot;
+
+pub use laws::expressions_run;
+pub use rows::worked_rows;
+pub use spot::{Regs, Spot};
