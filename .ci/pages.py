@@ -34,5 +34,6 @@ for wanted in sorted((top / "examples").glob("*.out")) if program.exists() else 
         if subprocess.run([program, *words], cwd=folder, capture_output=True).stdout != wanted.read_bytes():
             faults.append(f"examples/{wanted.name}: nescmote {' '.join(words)} prints something else")
 
-print("\n".join(faults))
+if faults:
+    print("\n".join(faults))
 sys.exit(1 if faults else 0)
