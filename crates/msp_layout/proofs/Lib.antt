@@ -7,3 +7,5 @@ pub mod Deepest
 pub mod Searching
 pub mod Handlers
 pub mod Placed
+pub mod Onward
+pub mod Between

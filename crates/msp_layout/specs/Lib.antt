@@ -3,6 +3,7 @@ pub mod Labels
 pub mod Sizes
 pub mod Depth
 pub mod Laid
+pub mod Onward
 pub mod Rounds
 pub mod Rows
 pub mod Search
