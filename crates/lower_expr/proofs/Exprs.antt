@@ -40,7 +40,9 @@ use Rattle.lower_expr.specs.Code.{labels, load_code, store_code, expr_code}
 use Rattle.lower_expr.specs.Pieces.{binary_code, convert_code, fit_code, high_code, truth_code, unary_code, zero_code, move_code}
 use Rattle.lower_expr.proofs.Values.{keeps_refl, keeps_put, keeps_on, holds_put, still}
 use Rattle.lower_expr.proofs.Numbers.{Is32Bits, negated, low_wrapped_wide, no_high_of, rest_wrapped, high_sum, wide_low_sum, high_difference, wide_low_difference, and_word, or_word, xor_word, low_of_word, byte_low, equal_low, less_low, le_is, low_byte, number_of_low, low_sum, low_difference, low_wrapped, low_word, word_number, wrapped_again}
-use Rattle.lower_expr.proofs.Pieces.{Next, as_number, at_here, byte_runs, label_runs, local_runs, non_zero_runs, first_runs, is_zero_runs, last_runs, test_runs, zero_runs, const_runs, load_runs, narrow_at, narrow_runs, wide_load_runs, wide_store_runs, wide_sum_runs, set_runs, store_runs}
+use Rattle.lower_expr.proofs.Halves.{and_halves, equal_halves, not_low, or_halves, wide_not_high, wide_not_low, xor_halves}
+use Rattle.lower_expr.proofs.Wide.{apart_tested, high_of, non_zero_test_runs, not_runs, sign_runs, tested, wide_at, wide_bits_runs, wide_equal_runs, wide_negated_runs, zero_test_runs, zero_truth_runs}
+use Rattle.lower_expr.proofs.Pieces.{Next, as_number, at_here, byte_runs, label_runs, local_runs, first_runs, last_runs, test_runs, const_runs, load_runs, narrow_at, narrow_runs, wide_load_runs, wide_store_runs, wide_sum_runs, set_runs, store_runs}
 
 module _ (codes : MidCode) (f : ℕ) (rest : List Activation) (labelled : IsLabelled (fn_of codes f).code) (n : ℕ)
     (p : Program) (types checks : List Ty) (spots : List Spot) (base : ℕ) (calls : Calls) where
@@ -117,12 +119,16 @@ module _ (codes : MidCode) (f : ℕ) (rest : List Activation) (labelled : IsLabe
       (ap not (ap (λ m. int_lt m (wrapped I16 (pos (values r)))) (ap (λ m. wrapped I16 (pos m)) hy.low_half ∙ number_of_low I16 tt y hy.number) ∙ ap (int_lt y) (ap (λ m. wrapped I16 (pos m)) hx.low_half ∙ number_of_low I16 tt x hx.number))) s h k next
   sum_runs bin.Eq I8 second x y r l pc end after env first values frame ok le hx hy s h k next = absurd ok
   sum_runs bin.Eq U8 second x y r l pc end after env first values frame ok le hx hy s h k next = absurd ok
-  sum_runs bin.Eq I32 second x y r l pc end after env first values frame ok le hx hy s h k next = absurd ok
-  sum_runs bin.Eq U32 second x y r l pc end after env first values frame ok le hx hy s h k next = absurd ok
+  sum_runs bin.Eq I32 second x y r l pc end after env first values frame ok le hx hy s h k next =
+      wide_equal_runs codes f rest labelled n p types spots base (int_eq x y) test.Eq I32 x y r l pc end after env first values frame le tt (equal_halves I32 tt x y hx.number hy.number) hx hy s h k next
+  sum_runs bin.Eq U32 second x y r l pc end after env first values frame ok le hx hy s h k next =
+      wide_equal_runs codes f rest labelled n p types spots base (int_eq x y) test.Eq U32 x y r l pc end after env first values frame le tt (equal_halves U32 tt x y hx.number hy.number) hx hy s h k next
   sum_runs bin.Ne I8 second x y r l pc end after env first values frame ok le hx hy s h k next = absurd ok
   sum_runs bin.Ne U8 second x y r l pc end after env first values frame ok le hx hy s h k next = absurd ok
-  sum_runs bin.Ne I32 second x y r l pc end after env first values frame ok le hx hy s h k next = absurd ok
-  sum_runs bin.Ne U32 second x y r l pc end after env first values frame ok le hx hy s h k next = absurd ok
+  sum_runs bin.Ne I32 second x y r l pc end after env first values frame ok le hx hy s h k next =
+      wide_equal_runs codes f rest labelled n p types spots base (not (int_eq x y)) test.Ne I32 x y r l pc end after env first values frame le tt (ap not (equal_halves I32 tt x y hx.number hy.number)) hx hy s h k next
+  sum_runs bin.Ne U32 second x y r l pc end after env first values frame ok le hx hy s h k next =
+      wide_equal_runs codes f rest labelled n p types spots base (not (int_eq x y)) test.Ne U32 x y r l pc end after env first values frame le tt (ap not (equal_halves U32 tt x y hx.number hy.number)) hx hy s h k next
   sum_runs bin.Lt I8 second x y r l pc end after env first values frame ok le hx hy s h k next = absurd ok
   sum_runs bin.Lt U8 second x y r l pc end after env first values frame ok le hx hy s h k next = absurd ok
   sum_runs bin.Lt I32 second x y r l pc end after env first values frame ok le hx hy s h k next = absurd ok
@@ -142,8 +148,12 @@ module _ (codes : MidCode) (f : ℕ) (rest : List Activation) (labelled : IsLabe
       (low_of_word U16 tt (bit_and (low x) (low y)) (and_word x y)) hx hy s h k next
   sum_runs bin.And I8 second x y r l pc end after env first values frame ok le hx hy s h k next = absurd ok
   sum_runs bin.And U8 second x y r l pc end after env first values frame ok le hx hy s h k next = absurd ok
-  sum_runs bin.And I32 second x y r l pc end after env first values frame ok le hx hy s h k next = absurd ok
-  sum_runs bin.And U32 second x y r l pc end after env first values frame ok le hx hy s h k next = absurd ok
+  sum_runs bin.And I32 second x y r l pc end after env first values frame ok le hx hy s h k next =
+      let is = and_halves I32 tt x y in
+      wide_bits_runs codes f rest labelled n p types spots base And I32 x y (wrapped I32 (pos (bit_and (residue 32 x) (residue 32 y)))) r pc end after env first values frame le tt (wrapped_again I32 (pos (bit_and (residue 32 x) (residue 32 y)))) is.0 is.1 hx hy s h k next
+  sum_runs bin.And U32 second x y r l pc end after env first values frame ok le hx hy s h k next =
+      let is = and_halves U32 tt x y in
+      wide_bits_runs codes f rest labelled n p types spots base And U32 x y (wrapped U32 (pos (bit_and (residue 32 x) (residue 32 y)))) r pc end after env first values frame le tt (wrapped_again U32 (pos (bit_and (residue 32 x) (residue 32 y)))) is.0 is.1 hx hy s h k next
   sum_runs bin.Or I16 second x y r l pc end after env first values frame ok le hx hy s h k next =
       narrow_runs codes f rest labelled n p types spots base Or I16 x y (wrapped I16 (pos (bit_or (low x) (low y)))) r pc end after env first values frame le refl (wrapped_again I16 (pos (bit_or (low x) (low y))))
       (low_of_word I16 tt (bit_or (low x) (low y)) (or_word x y)) hx hy s h k next
@@ -152,8 +162,12 @@ module _ (codes : MidCode) (f : ℕ) (rest : List Activation) (labelled : IsLabe
       (low_of_word U16 tt (bit_or (low x) (low y)) (or_word x y)) hx hy s h k next
   sum_runs bin.Or I8 second x y r l pc end after env first values frame ok le hx hy s h k next = absurd ok
   sum_runs bin.Or U8 second x y r l pc end after env first values frame ok le hx hy s h k next = absurd ok
-  sum_runs bin.Or I32 second x y r l pc end after env first values frame ok le hx hy s h k next = absurd ok
-  sum_runs bin.Or U32 second x y r l pc end after env first values frame ok le hx hy s h k next = absurd ok
+  sum_runs bin.Or I32 second x y r l pc end after env first values frame ok le hx hy s h k next =
+      let is = or_halves I32 tt x y in
+      wide_bits_runs codes f rest labelled n p types spots base Or I32 x y (wrapped I32 (pos (bit_or (residue 32 x) (residue 32 y)))) r pc end after env first values frame le tt (wrapped_again I32 (pos (bit_or (residue 32 x) (residue 32 y)))) is.0 is.1 hx hy s h k next
+  sum_runs bin.Or U32 second x y r l pc end after env first values frame ok le hx hy s h k next =
+      let is = or_halves U32 tt x y in
+      wide_bits_runs codes f rest labelled n p types spots base Or U32 x y (wrapped U32 (pos (bit_or (residue 32 x) (residue 32 y)))) r pc end after env first values frame le tt (wrapped_again U32 (pos (bit_or (residue 32 x) (residue 32 y)))) is.0 is.1 hx hy s h k next
   sum_runs bin.Xor I16 second x y r l pc end after env first values frame ok le hx hy s h k next =
       narrow_runs codes f rest labelled n p types spots base Xor I16 x y (wrapped I16 (pos (bit_xor (low x) (low y)))) r pc end after env first values frame le refl (wrapped_again I16 (pos (bit_xor (low x) (low y))))
       (low_of_word I16 tt (bit_xor (low x) (low y)) (xor_word x y)) hx hy s h k next
@@ -162,8 +176,12 @@ module _ (codes : MidCode) (f : ℕ) (rest : List Activation) (labelled : IsLabe
       (low_of_word U16 tt (bit_xor (low x) (low y)) (xor_word x y)) hx hy s h k next
   sum_runs bin.Xor I8 second x y r l pc end after env first values frame ok le hx hy s h k next = absurd ok
   sum_runs bin.Xor U8 second x y r l pc end after env first values frame ok le hx hy s h k next = absurd ok
-  sum_runs bin.Xor I32 second x y r l pc end after env first values frame ok le hx hy s h k next = absurd ok
-  sum_runs bin.Xor U32 second x y r l pc end after env first values frame ok le hx hy s h k next = absurd ok
+  sum_runs bin.Xor I32 second x y r l pc end after env first values frame ok le hx hy s h k next =
+      let is = xor_halves I32 tt x y in
+      wide_bits_runs codes f rest labelled n p types spots base Xor I32 x y (wrapped I32 (pos (bit_xor (residue 32 x) (residue 32 y)))) r pc end after env first values frame le tt (wrapped_again I32 (pos (bit_xor (residue 32 x) (residue 32 y)))) is.0 is.1 hx hy s h k next
+  sum_runs bin.Xor U32 second x y r l pc end after env first values frame ok le hx hy s h k next =
+      let is = xor_halves U32 tt x y in
+      wide_bits_runs codes f rest labelled n p types spots base Xor U32 x y (wrapped U32 (pos (bit_xor (residue 32 x) (residue 32 y)))) r pc end after env first values frame le tt (wrapped_again U32 (pos (bit_xor (residue 32 x) (residue 32 y)))) is.0 is.1 hx hy s h k next
   sum_runs bin.Shl t second x y r l pc end after env first values frame ok le hx hy s h k next = absurd ok
   sum_runs bin.Shr t second x y r l pc end after env first values frame ok le hx hy s h k next = absurd ok
 
@@ -223,8 +241,8 @@ module _ (codes : MidCode) (f : ℕ) (rest : List Activation) (labelled : IsLabe
   held_is (plain.port_out port e) ty h = ap number_of (sym h.0)
   held_is (plain.comma a b) ty h = held_is b ty h.1
 
-  short_is : (e : Expr) (ty : Ty) → Has p types e ty → is_wide (held p types e) ≡ false → is_wide (number_of ty) ≡ false
-  short_is e ty h short = ap is_wide (sym (held_is e ty h)) ∙ short
+  width_is : (e : Expr) (ty : Ty) → Has p types e ty → is_wide (number_of ty) ≡ is_wide (held p types e)
+  width_is e ty h = ap is_wide (sym (held_is e ty h))
 
   by_zero : (b : Bool) (x : ℤ) (yes_work no_work : Work ℤ) (after : ℤ → Locals → Behaviour) (env : Locals) (s : List Activation) → is_zero x ≡ b →
       (is_zero x ≡ true → Runs codes n (yes_work after env) s) → (is_zero x ≡ false → Runs codes n (no_work after env) s) →
@@ -238,10 +256,10 @@ module _ (codes : MidCode) (f : ℕ) (rest : List Activation) (labelled : IsLabe
   by_truth true x after env s e on_zero otherwise = subst (λ (b : Bool). Runs codes n (after (truth (not b)) env) s) (sym e) (on_zero e)
   by_truth false x after env s e on_zero otherwise = subst (λ (b : Bool). Runs codes n (after (truth (not b)) env) s) (sym e) (otherwise e)
 
-  -- the same values but for those from r on
-  spare : (ty : Ty) (r s x : ℕ) (old : ℕ → ℕ) (v : ℤ) (env : Locals) (values frame : ℕ → ℕ) → base ≤ r → r ≤ s → Stood ty r old v env values frame →
-      Holds p types spots base env (put values s x) frame × Keeps base r old (put values s x)
-  spare ty r s x old v env values frame le from h = (holds_put base p types spots env values frame s x (omega arith) h.holds, keeps_put base r s x old values from h.keeps)
+  -- the locals and the values below r are as they were where the number at r was tested
+  spare : (wide : Bool) (ty : Ty) (r : ℕ) (old : ℕ → ℕ) (v : ℤ) (env : Locals) (values frame : ℕ → ℕ) → base ≤ r → Stood ty r old v env values frame →
+      Holds p types spots base env (tested wide values r) frame × Keeps base r old (tested wide values r)
+  spare wide ty r old v env values frame le h = apart_tested p types spots base r le wide old env values frame (h.holds, h.keeps)
 
   converted_scalar : (t : IntType) (from : Ty) → IsConverted t from → IsScalar from
   converted_scalar t void h = absurd h
@@ -282,8 +300,25 @@ module _ (codes : MidCode) (f : ℕ) (rest : List Activation) (labelled : IsLabe
       }))))
   negated_runs I8 v r l pc end after env first values frame ok le held s h k next = absurd ok
   negated_runs U8 v r l pc end after env first values frame ok le held s h k next = absurd ok
-  negated_runs I32 v r l pc end after env first values frame ok le held s h k next = absurd ok
-  negated_runs U32 v r l pc end after env first values frame ok le held s h k next = absurd ok
+  negated_runs I32 v r l pc end after env first values frame ok le held s h k next =
+      wide_negated_runs codes f rest labelled n p types spots base I32 v r l pc end after env first values frame le tt held s h k next
+  negated_runs U32 v r l pc end after env first values frame ok le held s h k next =
+      wide_negated_runs codes f rest labelled n p types spots base U32 v r l pc end after env first values frame le tt held s h k next
+
+  turned_runs : (t : IntType) (v : ℤ) (r l pc end : ℕ) (after : ℤ → Locals → Behaviour) (env : Locals) (first values frame : ℕ → ℕ) →
+      CoversUn un.Not t → base ≤ r → IsHeld t v values r → Stands code pc (unary_code un.Not (is_wide t) r l) end →
+      Holds p types spots base env values frame → Keeps base r first values → Behind (int t) r end first after →
+      Runs codes n (after (unary un.Not t v) env) (here pc values frame)
+  turned_runs I16 v r l pc end after env first values frame ok le held s h k next =
+      not_runs codes f rest labelled n p types spots base false I16 v r l pc end after env first values frame le refl (not_low I16 tt v) (λ wide. absurd wide) held s h k next
+  turned_runs U16 v r l pc end after env first values frame ok le held s h k next =
+      not_runs codes f rest labelled n p types spots base false U16 v r l pc end after env first values frame le refl (not_low U16 tt v) (λ wide. absurd wide) held s h k next
+  turned_runs I32 v r l pc end after env first values frame ok le held s h k next =
+      not_runs codes f rest labelled n p types spots base true I32 v r l pc end after env first values frame le refl (wide_not_low I32 tt v) (λ wide. wide_not_high I32 tt v) held s h k next
+  turned_runs U32 v r l pc end after env first values frame ok le held s h k next =
+      not_runs codes f rest labelled n p types spots base true U32 v r l pc end after env first values frame le refl (wide_not_low U32 tt v) (λ wide. wide_not_high U32 tt v) held s h k next
+  turned_runs I8 v r l pc end after env first values frame ok le held s h k next = absurd ok
+  turned_runs U8 v r l pc end after env first values frame ok le held s h k next = absurd ok
 
   widened_runs : (t from : IntType) (v : ℤ) (r pc end : ℕ) (after : ℤ → Locals → Behaviour) (env : Locals) (first values frame : ℕ → ℕ) →
       is_wide t ≡ true → Is32Bits t → IsShortUnsigned from → base ≤ r → IsHeld from v values r → Stands code pc (Set (r + 1) 0 ∷ []) end →
@@ -319,31 +354,49 @@ module _ (codes : MidCode) (f : ℕ) (rest : List Activation) (labelled : IsLabe
   loaded_runs (int U16) a r pc end after env first values frame ok le e s h k next = load_runs codes f rest labelled n p types spots base (int U16) a r pc end after env first values frame tt le e s h k next
   loaded_runs (pointer u) a r pc end after env first values frame ok le e s h k next = load_runs codes f rest labelled n p types spots base (pointer u) a r pc end after env first values frame tt le e s h k next
 
-  narrowed_runs : (t : IntType) (from : IntType) (v : ℤ) (r l pc end : ℕ) (after : ℤ → Locals → Behaviour) (env : Locals) (first values frame : ℕ → ℕ) →
-      CoversConvert from t → base ≤ r → IsHeld from v values r → Stands code pc (fit_code t r ++ high_code false (is_wide t) (is_signed from) r l) end →
+  no_high_code : (wide signed : Bool) (r l : ℕ) → high_code wide false signed r l ≡ []
+  no_high_code true signed r l = refl
+  no_high_code false signed r l = refl
+
+  -- the high half of a number of 32 bits stays
+  kept_runs : (t from : IntType) (v : ℤ) (r pc end : ℕ) (after : ℤ → Locals → Behaviour) (env : Locals) (first values frame : ℕ → ℕ) →
+      Is32Bits t → Is32Bits from → IsHeld from v values r → pc ≡ end →
       Holds p types spots base env values frame → Keeps base r first values → Behind (int t) r end first after →
       Runs codes n (after (wrapped t v) env) (here pc values frame)
-  narrowed_runs I16 from v r l pc end after env first values frame ok le held s h k next =
-      at_end codes f rest n (after (wrapped I16 v) env) pc end values frame s
+  kept_runs t from v r pc end after env first values frame ok from_ok held e h k next =
+      at_end codes f rest n (after (wrapped t v) env) pc end values frame e
+      (next (wrapped t v) env values frame (record {
+        holds = h;
+        keeps = k;
+        is = wide_at t (wrapped t v) values r ok (wrapped_again t v) (held.low_half ∙ sym (low_wrapped_wide t ok v)) (high_of from v values r from_ok held ∙ ap (λ m. m / 65536) (sym (rest_wrapped t ok v)));
+      }))
+
+  converted_runs : (t from : IntType) (v : ℤ) (r l pc end : ℕ) (after : ℤ → Locals → Behaviour) (env : Locals) (first values frame : ℕ → ℕ) →
+      CoversConvert from t → base ≤ r → IsHeld from v values r → Stands code pc (convert_code from t r l) end →
+      Holds p types spots base env values frame → Keeps base r first values → Behind (int t) r end first after →
+      Runs codes n (after (wrapped t v) env) (here pc values frame)
+  converted_runs I16 from v r l pc end after env first values frame ok le held s h k next =
+      at_end codes f rest n (after (wrapped I16 v) env) pc end values frame (subst (λ c. Stands code pc c end) (no_high_code (is_wide from) (is_signed from) r l) s)
       (next (wrapped I16 v) env values frame (record { holds = h; keeps = k; is = record { number = wrapped_again I16 v; low_half = held.low_half ∙ sym (low_wrapped I16 tt v); high_half = tt } }))
-  narrowed_runs U16 from v r l pc end after env first values frame ok le held s h k next =
-      at_end codes f rest n (after (wrapped U16 v) env) pc end values frame s
+  converted_runs U16 from v r l pc end after env first values frame ok le held s h k next =
+      at_end codes f rest n (after (wrapped U16 v) env) pc end values frame (subst (λ c. Stands code pc c end) (no_high_code (is_wide from) (is_signed from) r l) s)
       (next (wrapped U16 v) env values frame (record { holds = h; keeps = k; is = record { number = wrapped_again U16 v; low_half = held.low_half ∙ sym (low_wrapped U16 tt v); high_half = tt } }))
-  narrowed_runs U8 from v r l pc end after env first values frame ok le held s h k next =
-      byte_runs codes f rest labelled n p types spots base v (low v) r pc end after env first values frame le held.low_half (byte_low v) s h k next
-  narrowed_runs I8 from v r l pc end after env first values frame ok le held s h k next = absurd ok
-  narrowed_runs I32 U8 v r l pc end after env first values frame ok le held s h k next = widened_runs I32 U8 v r pc end after env first values frame refl tt tt le held s h k next
-  narrowed_runs I32 U16 v r l pc end after env first values frame ok le held s h k next = widened_runs I32 U16 v r pc end after env first values frame refl tt tt le held s h k next
-  narrowed_runs I32 I8 v r l pc end after env first values frame ok le held s h k next = absurd ok
-  narrowed_runs I32 I16 v r l pc end after env first values frame ok le held s h k next = absurd ok
-  narrowed_runs I32 I32 v r l pc end after env first values frame ok le held s h k next = absurd ok
-  narrowed_runs I32 U32 v r l pc end after env first values frame ok le held s h k next = absurd ok
-  narrowed_runs U32 U8 v r l pc end after env first values frame ok le held s h k next = widened_runs U32 U8 v r pc end after env first values frame refl tt tt le held s h k next
-  narrowed_runs U32 U16 v r l pc end after env first values frame ok le held s h k next = widened_runs U32 U16 v r pc end after env first values frame refl tt tt le held s h k next
-  narrowed_runs U32 I8 v r l pc end after env first values frame ok le held s h k next = absurd ok
-  narrowed_runs U32 I16 v r l pc end after env first values frame ok le held s h k next = absurd ok
-  narrowed_runs U32 I32 v r l pc end after env first values frame ok le held s h k next = absurd ok
-  narrowed_runs U32 U32 v r l pc end after env first values frame ok le held s h k next = absurd ok
+  converted_runs U8 from v r l pc end after env first values frame ok le held s h k next =
+      byte_runs codes f rest labelled n p types spots base v (low v) r pc end after env first values frame le held.low_half (byte_low v)
+      (subst (λ c. Stands code pc (fit_code U8 r ++ c) end) (no_high_code (is_wide from) (is_signed from) r l) s) h k next
+  converted_runs I8 from v r l pc end after env first values frame ok le held s h k next = absurd ok
+  converted_runs I32 U8 v r l pc end after env first values frame ok le held s h k next = widened_runs I32 U8 v r pc end after env first values frame refl tt tt le held s h k next
+  converted_runs I32 U16 v r l pc end after env first values frame ok le held s h k next = widened_runs I32 U16 v r pc end after env first values frame refl tt tt le held s h k next
+  converted_runs I32 I8 v r l pc end after env first values frame ok le held s h k next = sign_runs codes f rest labelled n p types spots base I32 I8 v r l pc end after env first values frame le tt tt held s h k next
+  converted_runs I32 I16 v r l pc end after env first values frame ok le held s h k next = sign_runs codes f rest labelled n p types spots base I32 I16 v r l pc end after env first values frame le tt tt held s h k next
+  converted_runs I32 I32 v r l pc end after env first values frame ok le held s h k next = kept_runs I32 I32 v r pc end after env first values frame tt tt held s h k next
+  converted_runs I32 U32 v r l pc end after env first values frame ok le held s h k next = kept_runs I32 U32 v r pc end after env first values frame tt tt held s h k next
+  converted_runs U32 U8 v r l pc end after env first values frame ok le held s h k next = widened_runs U32 U8 v r pc end after env first values frame refl tt tt le held s h k next
+  converted_runs U32 U16 v r l pc end after env first values frame ok le held s h k next = widened_runs U32 U16 v r pc end after env first values frame refl tt tt le held s h k next
+  converted_runs U32 I8 v r l pc end after env first values frame ok le held s h k next = sign_runs codes f rest labelled n p types spots base U32 I8 v r l pc end after env first values frame le tt tt held s h k next
+  converted_runs U32 I16 v r l pc end after env first values frame ok le held s h k next = sign_runs codes f rest labelled n p types spots base U32 I16 v r l pc end after env first values frame le tt tt held s h k next
+  converted_runs U32 I32 v r l pc end after env first values frame ok le held s h k next = kept_runs U32 I32 v r pc end after env first values frame tt tt held s h k next
+  converted_runs U32 U32 v r l pc end after env first values frame ok le held s h k next = kept_runs U32 U32 v r pc end after env first values frame tt tt held s h k next
 
   stored_runs : (of : Ty) (a : ℕ) (v : ℤ) (r pc end : ℕ) (after : ℤ → Locals → Behaviour) (env : Locals) (first values frame : ℕ → ℕ) →
       IsLoaded of → base ≤ r → values r ≡ a → IsResult of v values (r + 2) →
@@ -420,16 +473,19 @@ module _ (codes : MidCode) (f : ℕ) (rest : List Activation) (labelled : IsLabe
       })))
   expr_runs (plain.un un.IsZero t e) ty r l pc end after env values frame le typed covered s h next =
       let s1 = split code pc end (expr_code p types checks spots e r (l + 2)) _ s in
-      let s2 = subst (λ w. Stands code s1.0 (unary_code un.IsZero w r l) end) covered.0 s1.2 in
       expr_runs e (int t) r (l + 2) pc s1.0 (λ x. after (truth (is_zero x))) env values frame le typed.2 covered.1 s1.1 h
-      (λ x env1 values1 frame1 h1. is_zero_runs codes f rest labelled n p types spots base t x r l s1.0 end after env1 values values1 frame1 le covered.0 h1.is s2 h1.holds h1.keeps
+      (λ x env1 values1 frame1 h1. zero_truth_runs codes f rest labelled n p types spots base (is_wide t) t x r l s1.0 end after env1 values values1 frame1 le refl h1.is s1.2 h1.holds h1.keeps
       (subst (λ u. Behind u r end values after) typed.0 next))
   expr_runs (plain.un un.Neg t e) ty r l pc end after env values frame le typed covered s h next =
       let s1 = split code pc end (expr_code p types checks spots e r (l + 2)) _ s in
       expr_runs e (int t) r (l + 2) pc s1.0 (λ x. after (unary un.Neg t x)) env values frame le typed.2 covered.1 s1.1 h
       (λ x env1 values1 frame1 h1. negated_runs t x r l s1.0 end after env1 values values1 frame1 covered.0 le h1.is s1.2 h1.holds h1.keeps
       (subst (λ u. Behind u r end values after) typed.0 next))
-  expr_runs (plain.un un.Not t e) ty r l pc end after env values frame le typed covered s h next = absurd covered.0
+  expr_runs (plain.un un.Not t e) ty r l pc end after env values frame le typed covered s h next =
+      let s1 = split code pc end (expr_code p types checks spots e r (l + 2)) _ s in
+      expr_runs e (int t) r (l + 2) pc s1.0 (λ x. after (unary un.Not t x)) env values frame le typed.2 covered.1 s1.1 h
+      (λ x env1 values1 frame1 h1. turned_runs t x r l s1.0 end after env1 values values1 frame1 covered.0 le h1.is s1.2 h1.holds h1.keeps
+      (subst (λ u. Behind u r end values after) typed.0 next))
   expr_runs (plain.post k) ty r l pc end after env values frame le typed covered s h next =
       wants codes n (action.Post k) (λ x. after (wrapped U8 (pos x)) env) _ (λ x. here (pc + 1) (put values r x) frame) (does codes f rest pc values frame (Post k r) s.0)
       (λ x lt. byte_runs codes f rest labelled n p types spots base (pos x) x r (pc + 1) end after env values (put values r x) frame le (put_same values r x) (low_byte x) s.1
@@ -441,47 +497,46 @@ module _ (codes : MidCode) (f : ℕ) (rest : List Activation) (labelled : IsLabe
       let s2 = split code s1.0 end (zero_code test.Eq (is_wide (held p types a)) r l) _ s1.2 in
       let s3 = split code s2.0 end (expr_code p types checks spots b r (l + 2 + labels a)) _ s2.2 in
       let s4 = split code s3.0 end (zero_code test.Eq (is_wide (held p types b)) r l) (Set r 1 ∷ Jump (l + 1) ∷ Label l ∷ Set r 0 ∷ Label (l + 1) ∷ []) s3.2 in
-      let za = subst (λ w. Stands code s1.0 (zero_code test.Eq w r l) s2.0) covered.0 s2.1 in
-      let zb = subst (λ w. Stands code s3.0 (zero_code test.Eq w r l) s4.0) covered.1 s4.1 in
       let to : ℕ = s4.0 + 1 + 1 in
       let tail = s4.2.1.1 in
       let ta = typed.1 in
       let tb = typed.2 in
       let second : Work ℤ = λ k. value p types calls b (λ y. k (truth (not (is_zero y)))) in
-      expr_runs a ta.0 r (l + 2) pc s1.0 (λ x. (if is_zero x then give (pos 0) else second) after) env values frame le ta.2 covered.2 s1.1 h
+      expr_runs a ta.0 r (l + 2) pc s1.0 (λ x. (if is_zero x then give (pos 0) else second) after) env values frame le ta.2 covered.0 s1.1 h
       (λ x env1 values1 frame1 h1.
       let ha = as_number codes f rest labelled n p types spots base ta.0 x values1 r ta.1 h1.is in
-      let na = short_is a ta.0 ta.2 covered.0 in
+      let na = width_is a ta.0 ta.2 in
+      let wa : Bool = is_wide (held p types a) in
       by_zero (is_zero x) x (give (pos 0)) second after env1 _ refl
-      (λ e. zero_runs codes f rest labelled n p types spots base true (number_of ta.0) x (after (pos 0) env1) r l s1.0 s2.0 to values1 frame1 na ha e za tail.0
-      (λ _. let sp = spare ta.0 r (r + 2) 0 values x env1 values1 frame1 le (omega arith) h1 in
-      last_runs codes f rest labelled n p types spots base 0 l to end r (pos 0) after env1 values (put values1 (r + 2) 0) frame1 le refl refl tail sp.0 sp.1 next_int)
+      (λ e. zero_test_runs codes f rest labelled n p types spots base wa true (number_of ta.0) x (after (pos 0) env1) r l s1.0 s2.0 to values1 frame1 na ha e s2.1 tail.0
+      (λ _. let sp = spare wa ta.0 r values x env1 values1 frame1 le h1 in
+      last_runs codes f rest labelled n p types spots base 0 l to end r (pos 0) after env1 values (tested wa values1 r) frame1 le refl refl tail sp.0 sp.1 next_int)
       (λ q. absurd (cc)))
-      (λ e. zero_runs codes f rest labelled n p types spots base false (number_of ta.0) x (second after env1) r l s1.0 s2.0 to values1 frame1 na ha e za tail.0
+      (λ e. zero_test_runs codes f rest labelled n p types spots base wa false (number_of ta.0) x (second after env1) r l s1.0 s2.0 to values1 frame1 na ha e s2.1 tail.0
       (λ q. absurd (cc))
-      (λ _. let sp = spare ta.0 r (r + 2) 0 values x env1 values1 frame1 le (omega arith) h1 in
-      expr_runs b tb.0 r (l + 2 + labels a) s2.0 s3.0 (λ y. after (truth (not (is_zero y)))) env1 (put values1 (r + 2) 0) frame1 le tb.2 covered.3 s3.1 sp.0
+      (λ _. let sp = spare wa ta.0 r values x env1 values1 frame1 le h1 in
+      expr_runs b tb.0 r (l + 2 + labels a) s2.0 s3.0 (λ y. after (truth (not (is_zero y)))) env1 (tested wa values1 r) frame1 le tb.2 covered.1 s3.1 sp.0
       (λ y env2 values2 frame2 h2.
       let hb = as_number codes f rest labelled n p types spots base tb.0 y values2 r tb.1 h2.is in
-      let nb = short_is b tb.0 tb.2 covered.1 in
-      let sq = spare tb.0 r (r + 2) 0 (put values1 (r + 2) 0) y env2 values2 frame2 le (omega arith) h2 in
-      let kept = keeps_on base r r values (put values1 (r + 2) 0) (put values2 (r + 2) 0) (omega arith) sp.1 sq.1 in
+      let nb = width_is b tb.0 tb.2 in
+      let wb : Bool = is_wide (held p types b) in
+      let sq = spare wb tb.0 r (tested wa values1 r) y env2 values2 frame2 le h2 in
+      let kept = keeps_on base r r values (tested wa values1 r) (tested wb values2 r) (omega arith) sp.1 sq.1 in
       by_truth (is_zero y) y after env2 _ refl
-      (λ e2. zero_runs codes f rest labelled n p types spots base true (number_of tb.0) y (after (pos 0) env2) r l s3.0 s4.0 to values2 frame2 nb hb e2 zb tail.0
-      (λ _. last_runs codes f rest labelled n p types spots base 0 l to end r (pos 0) after env2 values (put values2 (r + 2) 0) frame2 le refl refl tail sq.0 kept next_int)
+      (λ e2. zero_test_runs codes f rest labelled n p types spots base wb true (number_of tb.0) y (after (pos 0) env2) r l s3.0 s4.0 to values2 frame2 nb hb e2 s4.1 tail.0
+      (λ _. last_runs codes f rest labelled n p types spots base 0 l to end r (pos 0) after env2 values (tested wb values2 r) frame2 le refl refl tail sq.0 kept next_int)
       (λ q. absurd (cc)))
-      (λ e2. zero_runs codes f rest labelled n p types spots base false (number_of tb.0) y (after (pos 1) env2) r l s3.0 s4.0 to values2 frame2 nb hb e2 zb tail.0
+      (λ e2. zero_test_runs codes f rest labelled n p types spots base wb false (number_of tb.0) y (after (pos 1) env2) r l s3.0 s4.0 to values2 frame2 nb hb e2 s4.1 tail.0
       (λ q. absurd (cc))
-      (λ _. first_runs codes f rest labelled n p types spots base 1 0 l s4.0 end r (pos 1) after env2 values (put values2 (r + 2) 0) frame2 le refl refl s4.2 sq.0 kept next_int))))))
+      (λ _. first_runs codes f rest labelled n p types spots base 1 0 l s4.0 end r (pos 1) after env2 values (tested wb values2 r) frame2 le refl refl s4.2 sq.0 kept next_int))))))
   expr_runs (plain.convert t e) ty r l pc end after env values frame le typed covered s h next =
       let s1 = split code pc end (expr_code p types checks spots e r (l + 1)) (convert_code (held p types e) t r l) s in
-      let s2 = subst (λ w. Stands code s1.0 (fit_code t r ++ high_code w (is_wide t) (is_signed (held p types e)) r l) end) covered.1 s1.2 in
       let from = typed.1 in
-      expr_runs e from.0 r (l + 1) pc s1.0 (λ x. after (wrapped t x)) env values frame le from.1.1 covered.2 s1.1 h
+      expr_runs e from.0 r (l + 1) pc s1.0 (λ x. after (wrapped t x)) env values frame le from.1.1 covered.1 s1.1 h
       (λ x env1 values1 frame1 h1.
       let held1 = as_number codes f rest labelled n p types spots base from.0 x values1 r (converted_scalar t from.0 from.1.0) h1.is in
-      narrowed_runs t (held p types e) x r l s1.0 end after env1 values values1 frame1 covered.0 le
-      (subst (λ u. IsHeld u x values1 r) (sym (held_is e from.0 from.1.1)) held1) s2 h1.holds h1.keeps
+      converted_runs t (held p types e) x r l s1.0 end after env1 values values1 frame1 covered.0 le
+      (subst (λ u. IsHeld u x values1 r) (sym (held_is e from.0 from.1.1)) held1) s1.2 h1.holds h1.keeps
       (subst (λ u. Behind u r end values after) typed.0 next))
   expr_runs (plain.read (plain.local y) at) ty r l pc end after env values frame le typed covered s h next =
       local_runs codes f rest labelled n p types spots base (slice_get spots y) (place_type p types (plain.local y)) y _ r pc end after env values values frame covered.0 covered.1
@@ -491,25 +546,25 @@ module _ (codes : MidCode) (f : ℕ) (rest : List Activation) (labelled : IsLabe
       let s2 = split code s1.0 end (zero_code test.Eq (is_wide (held p types question)) r l) _ s1.2 in
       let s3 = split code s2.0 end (expr_code p types checks spots a r (l + 2 + labels question)) (Jump (l + 1) ∷ Label l ∷ (expr_code p types checks spots b r (l + 2 + labels question + labels a) ++ Label (l + 1) ∷ [])) s2.2 in
       let s4 = split code (s3.0 + 1 + 1) end (expr_code p types checks spots b r (l + 2 + labels question + labels a)) (Label (l + 1) ∷ []) s3.2.1.1 in
-      let zt = subst (λ w. Stands code s1.0 (zero_code test.Eq w r l) s2.0) covered.0 s2.1 in
       let tt0 = typed.0 in
-      expr_runs question tt0.0 r (l + 2) pc s1.0 (λ x. (if is_zero x then value p types calls b else value p types calls a) after) env values frame le tt0.2 covered.1 s1.1 h
+      expr_runs question tt0.0 r (l + 2) pc s1.0 (λ x. (if is_zero x then value p types calls b else value p types calls a) after) env values frame le tt0.2 covered.0 s1.1 h
       (λ x env1 values1 frame1 h1.
       let ht = as_number codes f rest labelled n p types spots base tt0.0 x values1 r tt0.1 h1.is in
-      let nt = short_is question tt0.0 tt0.2 covered.0 in
-      let sp = spare tt0.0 r (r + 2) 0 values x env1 values1 frame1 le (omega arith) h1 in
-      let joined : (v : ℤ) (env2 : Locals) (values2 frame2 : ℕ → ℕ) → Stood ty r (put values1 (r + 2) 0) v env2 values2 frame2 → Runs codes n (after v env2) (here s4.0 values2 frame2) =
+      let nt = width_is question tt0.0 tt0.2 in
+      let wt : Bool = is_wide (held p types question) in
+      let sp = spare wt tt0.0 r values x env1 values1 frame1 le h1 in
+      let joined : (v : ℤ) (env2 : Locals) (values2 frame2 : ℕ → ℕ) → Stood ty r (tested wt values1 r) v env2 values2 frame2 → Runs codes n (after v env2) (here s4.0 values2 frame2) =
       λ v env2 values2 frame2 h2. label_runs codes f rest labelled n p types spots base (after v env2) (l + 1) s4.0 values2 frame2 s4.2.0
       (at_end codes f rest n (after v env2) (s4.0 + 1) end values2 frame2 s4.2.1
-      (next v env2 values2 frame2 (record { holds = h2.holds; keeps = keeps_on base r r values (put values1 (r + 2) 0) values2 (omega arith) sp.1 h2.keeps; is = h2.is }))) in
+      (next v env2 values2 frame2 (record { holds = h2.holds; keeps = keeps_on base r r values (tested wt values1 r) values2 (omega arith) sp.1 h2.keeps; is = h2.is }))) in
       by_zero (is_zero x) x (value p types calls b) (value p types calls a) after env1 _ refl
-      (λ e. zero_runs codes f rest labelled n p types spots base true (number_of tt0.0) x (value p types calls b after env1) r l s1.0 s2.0 (s3.0 + 1) values1 frame1 nt ht e zt s3.2.1.0
-      (λ _. label_runs codes f rest labelled n p types spots base (value p types calls b after env1) l (s3.0 + 1) (put values1 (r + 2) 0) frame1 s3.2.1.0
-      (expr_runs b ty r (l + 2 + labels question + labels a) (s3.0 + 1 + 1) s4.0 after env1 (put values1 (r + 2) 0) frame1 le typed.2 covered.3 s4.1 sp.0 joined))
+      (λ e. zero_test_runs codes f rest labelled n p types spots base wt true (number_of tt0.0) x (value p types calls b after env1) r l s1.0 s2.0 (s3.0 + 1) values1 frame1 nt ht e s2.1 s3.2.1.0
+      (λ _. label_runs codes f rest labelled n p types spots base (value p types calls b after env1) l (s3.0 + 1) (tested wt values1 r) frame1 s3.2.1.0
+      (expr_runs b ty r (l + 2 + labels question + labels a) (s3.0 + 1 + 1) s4.0 after env1 (tested wt values1 r) frame1 le typed.2 covered.2 s4.1 sp.0 joined))
       (λ q. absurd (cc)))
-      (λ e. zero_runs codes f rest labelled n p types spots base false (number_of tt0.0) x (value p types calls a after env1) r l s1.0 s2.0 (s3.0 + 1) values1 frame1 nt ht e zt s3.2.1.0
+      (λ e. zero_test_runs codes f rest labelled n p types spots base wt false (number_of tt0.0) x (value p types calls a after env1) r l s1.0 s2.0 (s3.0 + 1) values1 frame1 nt ht e s2.1 s3.2.1.0
       (λ q. absurd (cc))
-      (λ _. expr_runs a ty r (l + 2 + labels question) s2.0 s3.0 after env1 (put values1 (r + 2) 0) frame1 le typed.1 covered.2 s3.1 sp.0
+      (λ _. expr_runs a ty r (l + 2 + labels question) s2.0 s3.0 after env1 (tested wt values1 r) frame1 le typed.1 covered.1 s3.1 sp.0
       (λ v env2 values2 frame2 h2. jump_runs codes f rest labelled n (after v env2) (l + 1) s3.0 s4.0 values2 frame2 s3.2.0 s4.2.0 (joined v env2 values2 frame2 h2)))))
   expr_runs (plain.either a b) ty r l pc end after env values frame le typed covered s h next =
       let next_int : Behind (int I16) r end values after = subst (λ u. Behind u r end values after) typed.0 next in
@@ -517,36 +572,36 @@ module _ (codes : MidCode) (f : ℕ) (rest : List Activation) (labelled : IsLabe
       let s2 = split code s1.0 end (zero_code test.Ne (is_wide (held p types a)) r l) _ s1.2 in
       let s3 = split code s2.0 end (expr_code p types checks spots b r (l + 2 + labels a)) _ s2.2 in
       let s4 = split code s3.0 end (zero_code test.Ne (is_wide (held p types b)) r l) (truth_code r l) s3.2 in
-      let za = subst (λ w. Stands code s1.0 (zero_code test.Ne w r l) s2.0) covered.0 s2.1 in
-      let zb = subst (λ w. Stands code s3.0 (zero_code test.Ne w r l) s4.0) covered.1 s4.1 in
       let to : ℕ = s4.0 + 1 + 1 in
       let tail = s4.2.1.1 in
       let ta = typed.1 in
       let tb = typed.2 in
       let second : Work ℤ = λ k. value p types calls b (λ y. k (truth (not (is_zero y)))) in
-      expr_runs a ta.0 r (l + 2) pc s1.0 (λ x. (if is_zero x then second else give (pos 1)) after) env values frame le ta.2 covered.2 s1.1 h
+      expr_runs a ta.0 r (l + 2) pc s1.0 (λ x. (if is_zero x then second else give (pos 1)) after) env values frame le ta.2 covered.0 s1.1 h
       (λ x env1 values1 frame1 h1.
       let ha = as_number codes f rest labelled n p types spots base ta.0 x values1 r ta.1 h1.is in
-      let na = short_is a ta.0 ta.2 covered.0 in
-      let sp = spare ta.0 r (r + 2) 0 values x env1 values1 frame1 le (omega arith) h1 in
+      let na = width_is a ta.0 ta.2 in
+      let wa : Bool = is_wide (held p types a) in
+      let sp = spare wa ta.0 r values x env1 values1 frame1 le h1 in
       by_zero (is_zero x) x second (give (pos 1)) after env1 _ refl
-      (λ e. non_zero_runs codes f rest labelled n p types spots base false (number_of ta.0) x (second after env1) r l s1.0 s2.0 to values1 frame1 na ha (ap not e) za tail.0
+      (λ e. non_zero_test_runs codes f rest labelled n p types spots base wa false (number_of ta.0) x (second after env1) r l s1.0 s2.0 to values1 frame1 na ha (ap not e) s2.1 tail.0
       (λ q. absurd (cc))
-      (λ _. expr_runs b tb.0 r (l + 2 + labels a) s2.0 s3.0 (λ y. after (truth (not (is_zero y)))) env1 (put values1 (r + 2) 0) frame1 le tb.2 covered.3 s3.1 sp.0
+      (λ _. expr_runs b tb.0 r (l + 2 + labels a) s2.0 s3.0 (λ y. after (truth (not (is_zero y)))) env1 (tested wa values1 r) frame1 le tb.2 covered.1 s3.1 sp.0
       (λ y env2 values2 frame2 h2.
       let hb = as_number codes f rest labelled n p types spots base tb.0 y values2 r tb.1 h2.is in
-      let nb = short_is b tb.0 tb.2 covered.1 in
-      let sq = spare tb.0 r (r + 2) 0 (put values1 (r + 2) 0) y env2 values2 frame2 le (omega arith) h2 in
-      let kept = keeps_on base r r values (put values1 (r + 2) 0) (put values2 (r + 2) 0) (omega arith) sp.1 sq.1 in
+      let nb = width_is b tb.0 tb.2 in
+      let wb : Bool = is_wide (held p types b) in
+      let sq = spare wb tb.0 r (tested wa values1 r) y env2 values2 frame2 le h2 in
+      let kept = keeps_on base r r values (tested wa values1 r) (tested wb values2 r) (omega arith) sp.1 sq.1 in
       by_truth (is_zero y) y after env2 _ refl
-      (λ e2. non_zero_runs codes f rest labelled n p types spots base false (number_of tb.0) y (after (pos 0) env2) r l s3.0 s4.0 to values2 frame2 nb hb (ap not e2) zb tail.0
+      (λ e2. non_zero_test_runs codes f rest labelled n p types spots base wb false (number_of tb.0) y (after (pos 0) env2) r l s3.0 s4.0 to values2 frame2 nb hb (ap not e2) s4.1 tail.0
       (λ q. absurd (cc))
-      (λ _. first_runs codes f rest labelled n p types spots base 0 1 l s4.0 end r (pos 0) after env2 values (put values2 (r + 2) 0) frame2 le refl refl s4.2 sq.0 kept next_int))
-      (λ e2. non_zero_runs codes f rest labelled n p types spots base true (number_of tb.0) y (after (pos 1) env2) r l s3.0 s4.0 to values2 frame2 nb hb (ap not e2) zb tail.0
-      (λ _. last_runs codes f rest labelled n p types spots base 1 l to end r (pos 1) after env2 values (put values2 (r + 2) 0) frame2 le refl refl tail sq.0 kept next_int)
+      (λ _. first_runs codes f rest labelled n p types spots base 0 1 l s4.0 end r (pos 0) after env2 values (tested wb values2 r) frame2 le refl refl s4.2 sq.0 kept next_int))
+      (λ e2. non_zero_test_runs codes f rest labelled n p types spots base wb true (number_of tb.0) y (after (pos 1) env2) r l s3.0 s4.0 to values2 frame2 nb hb (ap not e2) s4.1 tail.0
+      (λ _. last_runs codes f rest labelled n p types spots base 1 l to end r (pos 1) after env2 values (tested wb values2 r) frame2 le refl refl tail sq.0 kept next_int)
       (λ q. absurd (cc))))))
-      (λ e. non_zero_runs codes f rest labelled n p types spots base true (number_of ta.0) x (after (pos 1) env1) r l s1.0 s2.0 to values1 frame1 na ha (ap not e) za tail.0
-      (λ _. last_runs codes f rest labelled n p types spots base 1 l to end r (pos 1) after env1 values (put values1 (r + 2) 0) frame1 le refl refl tail sp.0 sp.1 next_int)
+      (λ e. non_zero_test_runs codes f rest labelled n p types spots base wa true (number_of ta.0) x (after (pos 1) env1) r l s1.0 s2.0 to values1 frame1 na ha (ap not e) s2.1 tail.0
+      (λ _. last_runs codes f rest labelled n p types spots base 1 l to end r (pos 1) after env1 values (tested wa values1 r) frame1 le refl refl tail sp.0 sp.1 next_int)
       (λ q. absurd (cc))))
   expr_runs (plain.assign (plain.object k) e at) ty r l pc end after env values frame le typed covered s h next =
       let a : ℕ = object_address (slice_get p.objects k) in

@@ -1,5 +1,9 @@
 pub mod Congruence
 pub mod Numbers
+pub mod Halves
 pub mod Values
 pub mod Pieces
+pub mod Wide
+pub mod Kept
+pub mod Helped
 pub mod Exprs

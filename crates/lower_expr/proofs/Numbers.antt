@@ -108,7 +108,7 @@ word_number x lt = ap pos (omega arith)
 pub low_word : (x : ℕ) → x < 65536 → x ≡ low (pos x)
 low_word x lt = omega arith
 
-not_below : (x y : ℕ) → y ≤ x → nat_lt x y ≡ false
+pub not_below : (x y : ℕ) → y ≤ x → nat_lt x y ≡ false
 not_below x y le = grind (arith, nat_tests)
 
 from_zero : (a half : ℕ) → a < half → signed_part (pos a) (pos half) ≡ pos a
@@ -174,7 +174,7 @@ byte_of_low (negsuc a) = omega arith
 
 -- ---- a number of a type by its low half
 
-range_of : (t : IntType) (z : ℤ) → wrapped t z ≡ z → (least t ≤ℤ z) × (z ≤ℤ greatest t)
+pub range_of : (t : IntType) (z : ℤ) → wrapped t z ≡ z → (least t ≤ℤ z) × (z ≤ℤ greatest t)
 range_of t z e = subst (λ u. (least t ≤ℤ u) × (u ≤ℤ greatest t)) e (wrapped_meant t z).range
 
 pub number_of_low : (t : IntType) → Is16Bits t → (z : ℤ) → wrapped t z ≡ z → wrapped t (pos (low z)) ≡ z
@@ -302,7 +302,7 @@ rest_sum x y =
     let s = residue 32 x + residue 32 y in
     unique32 (x +ℤ y) (s % 4294967296) (a.0 +ℤ b.0 +ℤ pos (s / 4294967296)) (omega arith) (omega (arith, ints, ea, eb))
 
-rest_difference : (x y : ℤ) → residue 32 (x -ℤ y) ≡ (residue 32 x + (4294967296 - residue 32 y)) % 4294967296
+pub rest_difference : (x y : ℤ) → residue 32 (x -ℤ y) ≡ (residue 32 x + (4294967296 - residue 32 y)) % 4294967296
 rest_difference x y =
     let a = rest_is x in
     let b = rest_is y in

@@ -1,5 +1,5 @@
 -- The code of each operation does what the operation does.
-use Rattle.std.proofs.Common.{◌≡◌, ◌≢◌, ℕ, ◌+◌, ◌*◌, ◌/◌, ◌%◌, ◌≤◌, Bool, true, false, List, [], ◌∷◌, ◌++◌, Option, Some, None, refl, sym, ap, ◌∙◌, subst, arith}
+use Rattle.std.proofs.Common.{◌≡◌, ◌≢◌, ℕ, ◌+◌, ◌*◌, ◌/◌, ◌%◌, ◌<◌, ◌≤◌, Bool, true, false, List, [], ◌∷◌, ◌++◌, Option, Some, None, refl, sym, ap, ◌∙◌, subst, arith}
 use Rattle.std.specs.Prelude.{ℤ, pos, slice_get, slice_index_or, bit_and, not, ◌==◌}
 use Rattle.std.proofs.lemmas.Nat.{and_mask}
 use Rattle.nm_base.specs.declared.int_type.IntType.{IntType}
@@ -274,7 +274,7 @@ module _ (codes : MidCode) (f : ℕ) (rest : List Activation) (labels : IsLabell
         is = narrow_at I16 (pos 0) r 0 values refl refl refl;
       }))))))
 
-  zero_to : (b : Bool) (test : Test) (behaviour : Behaviour) (r l pc mid to : ℕ) (values frame : ℕ → ℕ) →
+  pub zero_to : (b : Bool) (test : Test) (behaviour : Behaviour) (r l pc mid to : ℕ) (values frame : ℕ → ℕ) →
       holds test (values r) (values (r + 2)) ≡ b → Stands code pc (Branch test r (r + 2) l ∷ []) mid → slice_get code to ≡ Some (Label l) →
       (b ≡ true → Runs codes n behaviour (at_here to values frame)) → (b ≡ false → Runs codes n behaviour (at_here mid values frame)) →
       Runs codes n behaviour (at_here pc values frame)
@@ -415,9 +415,54 @@ module _ (codes : MidCode) (f : ℕ) (rest : List Activation) (labels : IsLabell
         is = narrow_at U16 v r x values refl (wrapped_again U16 (pos (number_in U16 (slice_index_or env y [])))) held.low_half;
       })))
   local_runs (Some (Values regs)) void y size r pc end after env first values frame inside ok held le s h k next = absurd ok
-  local_runs (Some (Values regs)) (int I8) y size r pc end after env first values frame inside ok held le s h k next = absurd ok
-  local_runs (Some (Values regs)) (int I32) y size r pc end after env first values frame inside ok held le s h k next = absurd ok
-  local_runs (Some (Values regs)) (int U32) y size r pc end after env first values frame inside ok held le s h k next = absurd ok
+  local_runs (Some (Values regs)) (int I8) y size r pc end after env first values frame inside ok held le s h k next =
+      let v : ℤ = local_value I8 (slice_index_or env y []) in
+      let x : ℕ = values (value_named regs.low) in
+      goes codes n (after v env) _ (at_here (pc + 1) (put values r x) frame) (does codes f rest pc values frame (Move r (value_named regs.low)) s.0)
+      (at_end codes f rest n (after v env) (pc + 1) end (put values r x) frame s.1
+      (next v env (put values r x) frame (record {
+        holds = holds_put base p types spots env values frame r x le h;
+        keeps = keeps_put base r r x first values (omega arith) k;
+        is = narrow_at I8 v r x values refl (wrapped_again I8 (pos (number_in I8 (slice_index_or env y [])))) held.low_half;
+      })))
+  local_runs (Some (Values regs)) (int I32) y size r pc end after env first values frame inside ok held le s h k next =
+      let v : ℤ = local_value I32 (slice_index_or env y []) in
+      let x : ℕ = values (value_named regs.low) in
+      let one : ℕ → ℕ = put values r x in
+      let z : ℕ = one (value_named regs.high) in
+      let below : value_named regs.high < base = held.high_below in
+      let z_is : z ≡ high v = put_other values r x (value_named regs.high) (λ e. omega (arith, below, le, e)) ∙ held.high_half in
+      goes codes n (after v env) _ (at_here (pc + 1) one frame) (does codes f rest pc values frame (Move r (value_named regs.low)) s.0)
+      (goes codes n (after v env) _ (at_here (pc + 1 + 1) (put one (r + 1) z) frame) (does codes f rest (pc + 1) one frame (Move (r + 1) (value_named regs.high)) s.1.0)
+      (at_end codes f rest n (after v env) (pc + 1 + 1) end (put one (r + 1) z) frame s.1.1
+      (next v env (put one (r + 1) z) frame (record {
+        holds = holds_put base p types spots env one frame (r + 1) z (omega arith) (holds_put base p types spots env values frame r x le h);
+        keeps = keeps_put base r (r + 1) z first one (omega arith) (keeps_put base r r x first values (omega arith) k);
+        is = record {
+          number = wrapped_again I32 (pos (number_in I32 (slice_index_or env y [])));
+          low_half = put_other one (r + 1) z r (λ e. omega arith) ∙ put_same values r x ∙ held.low_half;
+          high_half = put_same one (r + 1) z ∙ z_is;
+        };
+      }))))
+  local_runs (Some (Values regs)) (int U32) y size r pc end after env first values frame inside ok held le s h k next =
+      let v : ℤ = local_value U32 (slice_index_or env y []) in
+      let x : ℕ = values (value_named regs.low) in
+      let one : ℕ → ℕ = put values r x in
+      let z : ℕ = one (value_named regs.high) in
+      let below : value_named regs.high < base = held.high_below in
+      let z_is : z ≡ high v = put_other values r x (value_named regs.high) (λ e. omega (arith, below, le, e)) ∙ held.high_half in
+      goes codes n (after v env) _ (at_here (pc + 1) one frame) (does codes f rest pc values frame (Move r (value_named regs.low)) s.0)
+      (goes codes n (after v env) _ (at_here (pc + 1 + 1) (put one (r + 1) z) frame) (does codes f rest (pc + 1) one frame (Move (r + 1) (value_named regs.high)) s.1.0)
+      (at_end codes f rest n (after v env) (pc + 1 + 1) end (put one (r + 1) z) frame s.1.1
+      (next v env (put one (r + 1) z) frame (record {
+        holds = holds_put base p types spots env one frame (r + 1) z (omega arith) (holds_put base p types spots env values frame r x le h);
+        keeps = keeps_put base r (r + 1) z first one (omega arith) (keeps_put base r r x first values (omega arith) k);
+        is = record {
+          number = wrapped_again U32 (pos (number_in U32 (slice_index_or env y [])));
+          low_half = put_other one (r + 1) z r (λ e. omega arith) ∙ put_same values r x ∙ held.low_half;
+          high_half = put_same one (r + 1) z ∙ z_is;
+        };
+      }))))
   local_runs (Some (Values regs)) (pointer t) y size r pc end after env first values frame inside ok held le s h k next = absurd ok
   local_runs (Some (Values regs)) (array t m) y size r pc end after env first values frame inside ok held le s h k next = absurd ok
   local_runs (Some (Values regs)) (struct j) y size r pc end after env first values frame inside ok held le s h k next = absurd ok

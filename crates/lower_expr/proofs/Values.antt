@@ -43,7 +43,12 @@ module _ (base : ℕ) where
   local_put (Some (Frame o)) ty size bytes values frame s x le h = h
 
   pub holds_put : (p : Program) (types : List Ty) (spots : List Spot) (env : Locals) (values frame : ℕ → ℕ) (s x : ℕ) → base ≤ s → Holds p types spots base env values frame → Holds p types spots base env (put values s x) frame
-  holds_put p types spots env values frame s x le h = record { at = λ y lt. local_put (slice_get spots y) (slice_index_or types y void) (size_of p (slice_index_or types y void)) (slice_index_or env y []) values frame s x le (h.at y lt) }
+  holds_put p types spots env values frame s x le h = record {
+    at = λ y lt. local_put (slice_get spots y) (slice_index_or types y void) (size_of p (slice_index_or types y void)) (slice_index_or env y []) values frame s x le (h.at y lt);
+    count = h.count;
+    bytes = h.bytes;
+    apart = h.apart;
+  }
 
 -- a number at r is still there where the values from r to r + 2 are as they were
 high_kept : (wide : Bool) (v : ℤ) (old new : ℕ → ℕ) (r : ℕ) → new r ≡ old r → IsHighHeld wide v old r → IsHighHeld wide v new r

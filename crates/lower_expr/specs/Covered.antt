@@ -6,7 +6,6 @@ use Rattle.nesc_core.specs.declared.tree.BinOp.{BinOp}
 use Rattle.nesc_core.specs.declared.tree.BinOp.TheVariants.{Add, Sub, And, Or, Xor, Eq, Ne, Lt, Le}
 use Rattle.nesc_core.specs.declared.tree.UnOp.{UnOp}
 use Rattle.nesc_core.specs.declared.tree.UnOp.TheVariants.{IsZero, Neg, Not}
-use Rattle.mid_code.specs.Help.{is_wide}
 use Rattle.lower_expr.specs.declared.spot.Spot.{Spot}
 use Rattle.lower_expr.specs.declared.spot.Spot.TheVariants.{Values, Frame}
 use Rattle.lower_expr.specs.Held.{held}
@@ -28,15 +27,15 @@ IsWord I16 = ⊤
 IsWord U16 = ⊤
 IsWord _ = ⊥
 
--- sums and differences of all widths, the other operations of one word
+-- sums, differences, operations on bits and tests for equality of all widths, the order of words
 abbrev pub CoversBin : BinOp → IntType → Type 0
 CoversBin Add t = IsPromoted t
 CoversBin Sub t = IsPromoted t
-CoversBin And t = IsWord t
-CoversBin Or t = IsWord t
-CoversBin Xor t = IsWord t
-CoversBin Eq t = IsWord t
-CoversBin Ne t = IsWord t
+CoversBin And t = IsPromoted t
+CoversBin Or t = IsPromoted t
+CoversBin Xor t = IsPromoted t
+CoversBin Eq t = IsPromoted t
+CoversBin Ne t = IsPromoted t
 CoversBin Lt t = IsWord t
 CoversBin Le t = IsWord t
 CoversBin _ t = ⊥
@@ -51,8 +50,8 @@ abbrev pub CoversConvert : (from to : IntType) → Type 0
 CoversConvert from U8 = ⊤
 CoversConvert from I16 = ⊤
 CoversConvert from U16 = ⊤
-CoversConvert from I32 = IsShortUnsigned from
-CoversConvert from U32 = IsShortUnsigned from
+CoversConvert from I32 = ⊤
+CoversConvert from U32 = ⊤
 CoversConvert from I8 = ⊥
 
 abbrev pub IsLoaded : Ty → Type 0
@@ -60,22 +59,25 @@ IsLoaded (int I32) = ⊤
 IsLoaded (int U32) = ⊤
 IsLoaded t = IsWordSized t
 
--- a test of at most 16 bits against 0, and the sign of one word
 abbrev pub CoversUn : UnOp → IntType → Type 0
-CoversUn IsZero t = is_wide t ≡ false
-CoversUn Neg t = IsWord t
-CoversUn Not t = ⊥
+CoversUn IsZero t = ⊤
+CoversUn Neg t = IsPromoted t
+CoversUn Not t = IsPromoted t
 
 abbrev pub IsInValues : Option Spot → Type 0
 IsInValues None = ⊥
 IsInValues (Some (Values regs)) = ⊤
 IsInValues (Some (Frame o)) = ⊥
 
+-- a number, of any width
 abbrev pub IsNumberSized : Ty → Type 0
-IsNumberSized (int U8) = ⊤
-IsNumberSized (int I16) = ⊤
-IsNumberSized (int U16) = ⊤
+IsNumberSized (int t) = ⊤
 IsNumberSized _ = ⊥
+
+-- a number that one value holds
+abbrev pub IsKept : Ty → Type 0
+IsKept (int I8) = ⊤
+IsKept t = IsWordSized t
 
 abbrev pub IsObject : Place → Type 0
 IsObject (plain.object k) = ⊤
@@ -88,20 +90,16 @@ module _ (p : Program) (types : List Ty) (spots : List Spot) where
   IsRead (plain.local x) = IsInValues (slice_get spots x) × IsNumberSized (place_type p types (plain.local x))
   IsRead _ = ⊥
 
-  -- held in one value
-  abbrev pub IsShort : Expr → Type 0
-  IsShort e = is_wide (held p types e) ≡ false
-
   abbrev pub IsCovered : Expr → Type 0
   IsCovered (plain.const t x) = ⊤
   IsCovered plain.null = ⊤
   IsCovered (plain.read place at) = IsRead place
   IsCovered (plain.un op t e) = CoversUn op t × IsCovered e
   IsCovered (plain.bin op t a b) = CoversBin op t × IsCovered a × IsCovered b
-  IsCovered (plain.convert t e) = CoversConvert (held p types e) t × IsShort e × IsCovered e
-  IsCovered (plain.both a b) = IsShort a × IsShort b × IsCovered a × IsCovered b
-  IsCovered (plain.either a b) = IsShort a × IsShort b × IsCovered a × IsCovered b
-  IsCovered (plain.choice test a b) = IsShort test × IsCovered test × IsCovered a × IsCovered b
+  IsCovered (plain.convert t e) = CoversConvert (held p types e) t × IsCovered e
+  IsCovered (plain.both a b) = IsCovered a × IsCovered b
+  IsCovered (plain.either a b) = IsCovered a × IsCovered b
+  IsCovered (plain.choice test a b) = IsCovered test × IsCovered a × IsCovered b
   IsCovered (plain.assign place e at) = IsObject place × IsLoaded (place_type p types place) × IsCovered e
   IsCovered (plain.post k) = ⊤
   IsCovered (plain.port_in port) = ⊤

@@ -1,5 +1,5 @@
 -- How the locals of a body are held in a call of its function (own).
-use Rattle.std.specs.Prelude.{⊤, ◌≡◌, ℕ, ℤ, pos, ◌+◌, ◌*◌, ◌<◌, Bool, true, false, List, [], length, Option, Some, None, slice_get, slice_index, slice_index_or}
+use Rattle.std.specs.Prelude.{⊤, ◌≡◌, ℕ, ℤ, pos, ◌+◌, ◌*◌, ◌<◌, ◌≤◌, Bool, true, false, List, [], length, Option, Some, None, slice_get, slice_index, slice_index_or}
 use Rattle.nm_base.specs.declared.int_type.IntType.{IntType}
 use Rattle.nm_base.specs.declared.int_type.IntType.TheVariants.{I8, U8, I16, U16, I32, U32}
 use Rattle.nm_base.specs.IntType.{wrapped}
@@ -42,10 +42,29 @@ LocalIsHeld base None ty size bytes values frame = ⊥
 LocalIsHeld base (Some (Values regs)) ty size bytes values frame = InRegs base (number_of ty) (local_value (number_of ty) bytes) values regs
 LocalIsHeld base (Some (Frame o)) ty size bytes values frame = (i : ℕ) → i < size → frame (o + i) ≡ slice_index bytes i
 
--- each local of these types is where its spot says; values from `base` on are free
+-- the value that holds the low or the high half of a local
+abbrev pub value_at : Option Spot → (is_high wide : Bool) → Option ℕ
+value_at (Some (Values regs)) false wide = Some (value_named regs.low)
+value_at (Some (Values regs)) true true = Some (value_named regs.high)
+value_at (Some (Values regs)) true false = None
+value_at (Some (Frame o)) is_high wide = None
+value_at None is_high wide = None
+
+-- the bytes of a local of this size
+pub record HasBytes (size : ℕ) (bytes : List ℕ) : Type 0 where
+  pub length_is : length bytes ≡ size
+  pub small : (i : ℕ) → i < size → slice_index bytes i < 256
+
+-- each local of these types has its bytes, and is where its spot says; no value holds two locals or both halves of one, and those from
+-- `base` on are free
 pub record Holds (p : Program) (types : List Ty) (spots : List Spot) (base : ℕ) (env : Locals) (values frame : ℕ → ℕ) : Type 0 where
   pub at : (x : ℕ) → x < length types →
       LocalIsHeld base (slice_get spots x) (slice_index_or types x void) (size_of p (slice_index_or types x void)) (slice_index_or env x []) values frame
+  pub count : length types ≤ length env
+  pub bytes : (x : ℕ) → x < length types → HasBytes (size_of p (slice_index_or types x void)) (slice_index_or env x [])
+  pub apart : (x y v : ℕ) (a b : Bool) → x < length types → y < length types →
+      value_at (slice_get spots x) a (is_wide (number_of (slice_index_or types x void))) ≡ Some v →
+      value_at (slice_get spots y) b (is_wide (number_of (slice_index_or types y void))) ≡ Some v → (x ≡ y) × (a ≡ b)
 
 -- what an expression of a type leaves: its number at r, where it has one
 abbrev pub IsResult : Ty → ℤ → (ℕ → ℕ) → ℕ → Type 0

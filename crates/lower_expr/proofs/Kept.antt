@@ -1,0 +1,234 @@
+-- A number is written to a local that is in values.
+use Rattle.std.proofs.Common.{◌≡◌, ◌≢◌, ℕ, ◌+◌, ◌-◌, ◌*◌, ◌/◌, ◌%◌, ◌<◌, ◌≤◌, Bool, true, false, List, [], ◌∷◌, ◌++◌, length, Option, Some, None, refl, sym, ap, ◌∙◌, subst, ⊎_elim, arith, get_or-set_same, get_or-set_other}
+use Rattle.std.specs.Prelude.{ℤ, pos, negsuc, slice_get, slice_index, slice_index_or, slice_set}
+use Rattle.std.specs.Int.{int_rem_euclid}
+use Rattle.std.proofs.lemmas.List.{length-set}
+use Rattle.std.proofs.lemmas.Bool.Decides.{eqb_tells}
+use Rattle.nm_base.specs.declared.int_type.IntType.{IntType}
+use Rattle.nm_base.specs.declared.int_type.IntType.TheVariants.{I8, U8, I16, U16, I32, U32}
+use Rattle.nm_base.specs.IntType.{wrapped, signed_part}
+use Rattle.nm_base.specs.Behaviour.{Behaviour}
+use Rattle.nesc_core.specs.Plain.{Ty, void, int, pointer, array, struct, Program}
+use Rattle.core_meaning.specs.Numbers.{residue}
+use Rattle.core_meaning.specs.Layout.{size_of}
+use Rattle.core_meaning.specs.Work.{Locals, number_of, store}
+use Rattle.core_meaning.specs.declared.access.Where.TheVariants.{Within}
+use Rattle.mid_code.specs.declared.instr.Mid.{Mid}
+use Rattle.mid_code.specs.declared.instr.Mid.TheVariants.{Move}
+use Rattle.mid_code.specs.declared.code.MidCode.{MidCode}
+use Rattle.mid_code.specs.Machine.{Activation, fn_of, put}
+use Rattle.mid_code.specs.Runs.{IsLabelled, Runs, Stands}
+use Rattle.mid_code.specs.Help.{is_wide}
+use Rattle.mid_code.proofs.Runs.{goes}
+use Rattle.mid_code.proofs.Stands.{does, at_end}
+use Rattle.mid_code.proofs.Written.{put_same, put_other}
+use Rattle.lower_expr.specs.declared.spot.Regs.{Regs}
+use Rattle.lower_expr.specs.declared.spot.Spot.{Spot}
+use Rattle.lower_expr.specs.declared.spot.Spot.TheVariants.{Values, Frame}
+use Rattle.lower_expr.specs.Held.{IsHeld, IsHighHeld, low}
+use Rattle.lower_expr.specs.Runs.{Keeps}
+use Rattle.lower_expr.specs.Locals.{HasBytes, Holds, InRegs, IsHighBelow, IsResult, LocalIsHeld, local_value, number_in, value_at}
+use Rattle.lower_expr.specs.Code.{keep_code, kind_of_spot, local_code, put_code, value_named}
+use Rattle.lower_expr.specs.Covered.{IsInValues, IsKept}
+use Rattle.lower_expr.specs.Pieces.{move_code}
+use Rattle.lower_expr.proofs.Values.{keeps_below, keeps_put, holds_put}
+use Rattle.lower_expr.proofs.Numbers.{low_small, number_of_low}
+use Rattle.lower_expr.proofs.Pieces.{Next, at_here, narrow_at}
+
+module _ (p : Program) (types : List Ty) (spots : List Spot) (base : ℕ) where
+  abbrev type_of : ℕ → Ty
+  type_of x = slice_index_or types x void
+
+  -- the value that holds a half of a local
+  abbrev value_of : ℕ → Bool → Option ℕ
+  value_of x is_high = value_at (slice_get spots x) is_high (is_wide (number_of (type_of x)))
+
+  high_kept : (wide : Bool) (regs : Regs) (v : ℤ) (old new : ℕ → ℕ) → IsHighBelow wide base (value_named regs.high) →
+      ((a : Bool) (s : ℕ) → value_at (Some (Values regs)) a wide ≡ Some s → s < base → new s ≡ old s) →
+      IsHighHeld wide v old (value_named regs.high) → IsHighHeld wide v new (value_named regs.high)
+  high_kept true regs v old new lt same h = same true (value_named regs.high) refl lt ∙ h
+  high_kept false regs v old new lt same h = tt
+
+  local_kept : (spot : Option Spot) (ty : Ty) (size : ℕ) (bytes : List ℕ) (old new frame : ℕ → ℕ) →
+      ((a : Bool) (s : ℕ) → value_at spot a (is_wide (number_of ty)) ≡ Some s → s < base → new s ≡ old s) →
+      LocalIsHeld base spot ty size bytes old frame → LocalIsHeld base spot ty size bytes new frame
+  local_kept None ty size bytes old new frame same h = h
+  local_kept (Some (Values regs)) ty size bytes old new frame same h = record {
+    low_below = h.low_below;
+    high_below = h.high_below;
+    low_half = same false (value_named regs.low) refl h.low_below ∙ h.low_half;
+    high_half = high_kept (is_wide (number_of ty)) regs (local_value (number_of ty) bytes) old new h.high_below same h.high_half;
+  }
+  local_kept (Some (Frame o)) ty size bytes old new frame same h = h
+
+  -- a local gets these bytes, and no other value below `base` changes
+  pub local_written : (y : ℕ) (bytes : List ℕ) (env : Locals) (old new frame : ℕ → ℕ) → y < length types → Holds p types spots base env old frame →
+      HasBytes (size_of p (type_of y)) bytes → LocalIsHeld base (slice_get spots y) (type_of y) (size_of p (type_of y)) bytes new frame →
+      ((s : ℕ) → ((b : Bool) → value_of y b ≢ Some s) → s < base → new s ≡ old s) →
+      Holds p types spots base (slice_set env y bytes) new frame
+  local_written y bytes env old new frame lt h sized held same =
+      let many = h.count in
+      let inside : y < length env = omega (arith, lt, many) in
+      record {
+        at = λ x below. ⊎_elim
+            (λ t. subst (λ u. LocalIsHeld base (slice_get spots u) (type_of u) (size_of p (type_of u)) (slice_index_or (slice_set env y bytes) u []) new frame) (sym t.1)
+            (subst (λ l. LocalIsHeld base (slice_get spots y) (type_of y) (size_of p (type_of y)) l new frame) (sym (get_or-set_same env y bytes [] inside)) held))
+            (λ t. subst (λ l. LocalIsHeld base (slice_get spots x) (type_of x) (size_of p (type_of x)) l new frame) (sym (get_or-set_other env y x bytes [] t.1))
+            (local_kept (slice_get spots x) (type_of x) (size_of p (type_of x)) (slice_index_or env x []) old new frame
+            (λ a s is low_s. same s (λ b other. t.1 (h.apart x y s a b below lt is other).0) low_s) (h.at x below)))
+            (eqb_tells x y);
+        bytes = λ x below. ⊎_elim
+            (λ t. subst (λ u. HasBytes (size_of p (type_of u)) (slice_index_or (slice_set env y bytes) u [])) (sym t.1)
+            (subst (λ l. HasBytes (size_of p (type_of y)) l) (sym (get_or-set_same env y bytes [] inside)) sized))
+            (λ t. subst (λ l. HasBytes (size_of p (type_of x)) l) (sym (get_or-set_other env y x bytes [] t.1)) (h.bytes x below))
+            (eqb_tells x y);
+        count = let same_length = length-set env y bytes in omega (arith, many, same_length);
+        apart = h.apart;
+      }
+
+-- ---- a number from its bytes
+
+abbrev IsByte : IntType → Type 0
+IsByte I8 = Unit {0}
+IsByte U8 = Unit {0}
+IsByte _ = ⊥
+
+number_of_byte : (t : IntType) → IsByte t → (v : ℤ) → wrapped t v ≡ v → wrapped t (pos (residue 8 v)) ≡ v
+number_of_byte I8 ok (pos a) e = ap (λ m. signed_part m (pos 128)) (ap pos (let h : a % 256 % 256 ≡ a % 256 = omega arith in h)) ∙ e
+number_of_byte I8 ok (negsuc a) e = ap (λ m. signed_part m (pos 128)) (ap pos (let h : (256 - 1 - a % 256) % 256 ≡ 256 - 1 - a % 256 = omega arith in h)) ∙ e
+number_of_byte U8 ok (pos a) e = ap pos (let h : a % 256 % 256 ≡ a % 256 = omega arith in h) ∙ e
+number_of_byte U8 ok (negsuc a) e = ap pos (let h : (256 - 1 - a % 256) % 256 ≡ 256 - 1 - a % 256 = omega arith in h) ∙ e
+number_of_byte I16 ok v e = absurd ok
+number_of_byte U16 ok v e = absurd ok
+number_of_byte I32 ok v e = absurd ok
+number_of_byte U32 ok v e = absurd ok
+
+byte_small : (v : ℤ) → residue 8 v < 256
+byte_small (pos a) = omega arith
+byte_small (negsuc a) = omega arith
+
+abbrev one_byte : List ℕ → ℕ → List ℕ
+one_byte l n = slice_set l 0 n
+
+abbrev two_bytes : List ℕ → ℕ → List ℕ
+two_bytes l n = slice_set (slice_set l 0 (n % 256)) 1 (n / 256)
+
+byte_in : (l : List ℕ) (n : ℕ) → length l ≡ 1 → slice_index (one_byte l n) 0 ≡ n
+byte_in l n e = get_or-set_same l 0 n 0 (omega (arith, e))
+
+word_in : (l : List ℕ) (n : ℕ) → length l ≡ 2 → slice_index (two_bytes l n) 0 + 256 * slice_index (two_bytes l n) 1 ≡ n
+word_in l n e =
+    let longer = length-set l 0 (n % 256) in
+    let first : slice_index (two_bytes l n) 0 ≡ n % 256 =
+    get_or-set_other (slice_set l 0 (n % 256)) 1 0 (n / 256) 0 (λ q. omega (arith, q)) ∙ get_or-set_same l 0 (n % 256) 0 (omega (arith, e)) in
+    let second : slice_index (two_bytes l n) 1 ≡ n / 256 = get_or-set_same (slice_set l 0 (n % 256)) 1 (n / 256) 0 (omega (arith, e, longer)) in
+    omega (arith, first, second)
+
+-- one byte is written
+bytes_set : (size : ℕ) (l : List ℕ) (o n : ℕ) → n < 256 → HasBytes size l → HasBytes size (slice_set l o n)
+bytes_set size l o n lt h =
+    let count = h.length_is in
+    record {
+      length_is = length-set l o n ∙ count;
+      small = λ i inside. ⊎_elim
+          (λ t. let same = t.1 in let is : slice_index (slice_set l o n) i ≡ n = ap (slice_index (slice_set l o n)) same ∙ get_or-set_same l o n 0 (omega (arith, inside, same, count)) in omega (arith, is, lt))
+          (λ t. let is : slice_index (slice_set l o n) i ≡ slice_index l i = get_or-set_other l o i n 0 t.1 in let s = h.small i inside in omega (arith, is, s))
+          (eqb_tells i o);
+    }
+
+word_set : (size : ℕ) (l : List ℕ) (n : ℕ) → n < 65536 → HasBytes size l → HasBytes size (two_bytes l n)
+word_set size l n lt h = bytes_set size (slice_set l 0 (n % 256)) 1 (n / 256) (omega (arith, lt)) (bytes_set size l 0 (n % 256) (omega arith) h)
+
+module _ (codes : MidCode) (f : ℕ) (rest : List Activation) (labels : IsLabelled (fn_of codes f).code) (n : ℕ)
+    (p : Program) (types : List Ty) (spots : List Spot) (base : ℕ) where
+  abbrev code : List Mid
+  code = (fn_of codes f).code
+
+  abbrev here : ℕ → (ℕ → ℕ) → (ℕ → ℕ) → List Activation
+  here pc values frame = at_here codes f rest labels n p types spots base pc values frame
+
+  abbrev Behind : Ty → (r end : ℕ) → (ℕ → ℕ) → (ℤ → Locals → Behaviour) → Type 0
+  Behind ty r end old after = Next codes f rest labels n p types spots base ty r end old after
+
+  -- of one value
+  short_kept_runs : (ty : Ty) (y : ℕ) (regs : Regs) (bytes : List ℕ) (v : ℤ) (r pc end : ℕ) (after : ℤ → Locals → Behaviour) (env : Locals) (first values frame : ℕ → ℕ) →
+      ((new : ℕ → ℕ) (at : ℕ) → IsHeld (number_of ty) v new at → IsResult ty v new at) → is_wide (number_of ty) ≡ false → slice_get spots y ≡ Some (Values regs) → type_of p types spots base y ≡ ty → y < length types → base ≤ r →
+      HasBytes (size_of p ty) bytes → local_value (number_of ty) bytes ≡ v → InRegs base (number_of ty) (local_value (number_of ty) (slice_index_or env y [])) values regs → IsHeld (number_of ty) v values (r + 2) →
+      Stands code pc (Move (value_named regs.low) (r + 2) ∷ Move r (r + 2) ∷ []) end → Holds p types spots base env values frame → Keeps base r first values → Behind ty r end first after →
+      Runs codes n (after v (slice_set env y bytes)) (here pc values frame)
+  short_kept_runs ty y regs bytes v r pc end after env first values frame result narrow spot_is type_is inside le sized is in_regs held s h k next =
+      let env1 : Locals = slice_set env y bytes in
+      let x : ℕ = values (r + 2) in
+      let below : value_named regs.low < base = in_regs.low_below in
+      let one : ℕ → ℕ = put values (value_named regs.low) x in
+      let z : ℕ = one (r + 2) in
+      let z_is : z ≡ low v = put_other values (value_named regs.low) x (r + 2) (λ e. omega (arith, below, le, e)) ∙ held.low_half in
+      let local : LocalIsHeld base (Some (Values regs)) ty (size_of p ty) bytes one frame = record {
+        low_below = in_regs.low_below;
+        high_below = in_regs.high_below;
+        low_half = put_same values (value_named regs.low) x ∙ held.low_half ∙ ap low (sym is);
+        high_half = subst (λ b. IsHighHeld b (local_value (number_of ty) bytes) one (value_named regs.high)) (sym narrow) tt;
+      } in
+      let local_spot : LocalIsHeld base (slice_get spots y) ty (size_of p ty) bytes one frame = subst (λ o. LocalIsHeld base o ty (size_of p ty) bytes one frame) (sym spot_is) local in
+      let holds1 = local_written p types spots base y bytes env values one frame inside h
+      (subst (λ u. HasBytes (size_of p u) bytes) (sym type_is) sized)
+      (subst (λ u. LocalIsHeld base (slice_get spots y) u (size_of p u) bytes one frame) (sym type_is) local_spot)
+      (λ s other low_s. put_other values (value_named regs.low) x s (λ e. other false (ap (λ o. value_at o false (is_wide (number_of (type_of p types spots base y)))) spot_is ∙ ap Some (sym e)))) in
+      goes codes n (after v env1) _ (here (pc + 1) one frame) (does codes f rest pc values frame (Move (value_named regs.low) (r + 2)) s.0)
+      (goes codes n (after v env1) _ (here (pc + 1 + 1) (put one r z) frame) (does codes f rest (pc + 1) one frame (Move r (r + 2)) s.1.0)
+      (at_end codes f rest n (after v env1) (pc + 1 + 1) end (put one r z) frame s.1.1
+      (next v env1 (put one r z) frame (record {
+        holds = holds_put base p types spots env1 one frame r z le holds1;
+        keeps = keeps_put base r r z first one (omega arith) (keeps_below base r (value_named regs.low) x first values below k);
+        is = result (put one r z) r (narrow_at codes f rest labels n p types spots base (number_of ty) v r z one narrow held.number z_is);
+      }))))
+
+  pub local_kept_runs : (o : Option Spot) (ty : Ty) (y : ℕ) (v : ℤ) (r pc end : ℕ) (after : ℤ → Locals → Behaviour) (env : Locals) (first values frame : ℕ → ℕ) →
+      IsInValues o → IsKept ty → slice_get spots y ≡ o → type_of p types spots base y ≡ ty → y < length types → base ≤ r →
+      LocalIsHeld base o ty (size_of p ty) (slice_index_or env y []) values frame → IsResult ty v values (r + 2) →
+      Stands code pc (put_code (kind_of_spot o) (number_of ty) (r + 2) r ++ move_code (is_wide (number_of ty)) r (r + 2)) end →
+      Holds p types spots base env values frame → Keeps base r first values → Behind ty r end first after →
+      Runs codes n (store ty (Within y 0) v (λ _. after v) env) (here pc values frame)
+  local_kept_runs (Some (Values regs)) (int I8) y v r pc end after env first values frame in_values kept spot_is type_is inside le local held s h k next =
+      let l : List ℕ = slice_index_or env y [] in
+      let w : ℕ = residue 8 v in
+      let sized = subst (λ u. HasBytes (size_of p u) l) type_is (h.bytes y inside) in
+      short_kept_runs (int I8) y regs (one_byte l w) v r pc end after env first values frame (λ new at is. is) refl spot_is type_is inside le
+      (bytes_set 1 l 0 w (byte_small v) sized) (ap (λ m. wrapped I8 (pos m)) (byte_in l w sized.length_is) ∙ number_of_byte I8 tt v held.number) local held s h k next
+  local_kept_runs (Some (Values regs)) (int U8) y v r pc end after env first values frame in_values kept spot_is type_is inside le local held s h k next =
+      let l : List ℕ = slice_index_or env y [] in
+      let w : ℕ = residue 8 v in
+      let sized = subst (λ u. HasBytes (size_of p u) l) type_is (h.bytes y inside) in
+      short_kept_runs (int U8) y regs (one_byte l w) v r pc end after env first values frame (λ new at is. is) refl spot_is type_is inside le
+      (bytes_set 1 l 0 w (byte_small v) sized) (ap (λ m. wrapped U8 (pos m)) (byte_in l w sized.length_is) ∙ number_of_byte U8 tt v held.number) local held s h k next
+  local_kept_runs (Some (Values regs)) (int I16) y v r pc end after env first values frame in_values kept spot_is type_is inside le local held s h k next =
+      let l : List ℕ = slice_index_or env y [] in
+      let w : ℕ = residue 16 v in
+      let sized = subst (λ u. HasBytes (size_of p u) l) type_is (h.bytes y inside) in
+      short_kept_runs (int I16) y regs (two_bytes l w) v r pc end after env first values frame (λ new at is. is) refl spot_is type_is inside le
+      (word_set 2 l w (low_small v) sized) (ap (λ m. wrapped I16 (pos m)) (word_in l w sized.length_is) ∙ number_of_low I16 tt v held.number) local held s h k next
+  local_kept_runs (Some (Values regs)) (int U16) y v r pc end after env first values frame in_values kept spot_is type_is inside le local held s h k next =
+      let l : List ℕ = slice_index_or env y [] in
+      let w : ℕ = residue 16 v in
+      let sized = subst (λ u. HasBytes (size_of p u) l) type_is (h.bytes y inside) in
+      short_kept_runs (int U16) y regs (two_bytes l w) v r pc end after env first values frame (λ new at is. is) refl spot_is type_is inside le
+      (word_set 2 l w (low_small v) sized) (ap (λ m. wrapped U16 (pos m)) (word_in l w sized.length_is) ∙ number_of_low U16 tt v held.number) local held s h k next
+  local_kept_runs (Some (Values regs)) (pointer t) y v r pc end after env first values frame in_values kept spot_is type_is inside le local held s h k next =
+      let l : List ℕ = slice_index_or env y [] in
+      let w : ℕ = residue 16 v in
+      let sized = subst (λ u. HasBytes (size_of p u) l) type_is (h.bytes y inside) in
+      short_kept_runs (pointer t) y regs (two_bytes l w) v r pc end after env first values frame (λ new at is. is) refl spot_is type_is inside le
+      (word_set 2 l w (low_small v) sized) (ap (λ m. wrapped U16 (pos m)) (word_in l w sized.length_is) ∙ number_of_low U16 tt v held.number) local held s h k next
+  local_kept_runs (Some (Values regs)) (int I32) y v r pc end after env first values frame in_values kept spot_is type_is inside le local held s h k next = absurd kept
+  local_kept_runs (Some (Values regs)) (int U32) y v r pc end after env first values frame in_values kept spot_is type_is inside le local held s h k next = absurd kept
+  local_kept_runs (Some (Values regs)) void y v r pc end after env first values frame in_values kept spot_is type_is inside le local held s h k next = absurd kept
+  local_kept_runs (Some (Values regs)) (array t m) y v r pc end after env first values frame in_values kept spot_is type_is inside le local held s h k next = absurd kept
+  local_kept_runs (Some (Values regs)) (struct j) y v r pc end after env first values frame in_values kept spot_is type_is inside le local held s h k next = absurd kept
+  local_kept_runs None ty y v r pc end after env first values frame in_values kept spot_is type_is inside le local held s h k next = absurd in_values
+  local_kept_runs (Some (Frame o)) ty y v r pc end after env first values frame in_values kept spot_is type_is inside le local held s h k next = absurd in_values
+
+  -- no code leads to a local in values
+  pub nothing_first : (o : Option Spot) (r pc mid : ℕ) → IsInValues o → Stands code pc (local_code o r) mid → pc ≡ mid
+  nothing_first None r pc mid in_values s = absurd in_values
+  nothing_first (Some (Values regs)) r pc mid in_values s = s
+  nothing_first (Some (Frame o)) r pc mid in_values s = absurd in_values
