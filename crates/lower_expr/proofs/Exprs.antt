@@ -1,6 +1,6 @@
 -- The code of an expression does what the expression does.
 use Rattle.std.proofs.Common.{◌≡◌, ℕ, ◌+◌, ◌/◌, ◌≤◌, Bool, true, false, List, [], ◌∷◌, ◌++◌, Option, Some, None, refl, sym, ap, ◌∙◌, subst, arith}
-use Rattle.std.specs.Prelude.{ℤ, pos, slice_get, bit_and, bit_or, bit_xor, not, nat_lt, nat_le, int_lt, ◌==◌, if◌then◌else◌, ◌+ℤ◌, ◌-ℤ◌}
+use Rattle.std.specs.Prelude.{ℤ, pos, slice_get, bit_and, bit_or, bit_xor, not, nat_lt, nat_le, int_lt, int_div, int_rem, ◌==◌, if◌then◌else◌, ◌+ℤ◌, ◌-ℤ◌}
 use Rattle.std.specs.Ordering.{int_eq}
 use Rattle.nm_base.specs.declared.int_type.IntType.{IntType}
 use Rattle.nm_base.specs.declared.int_type.IntType.TheVariants.{I8, U8, I16, U16, I32, U32}
@@ -17,7 +17,7 @@ use Rattle.nesc_core.specs.Typing.{Has, IsConverted, IsScalar, IsPointer, IsStep
 use Rattle.core_meaning.specs.Numbers.{residue, binary, unary, is_zero, truth}
 use Rattle.core_meaning.specs.Layout.{object_address}
 use Rattle.core_meaning.specs.Work.{Locals, Work, give, load, store, or_fault, number_of}
-use Rattle.core_meaning.specs.declared.access.Where.TheVariants.{At}
+use Rattle.core_meaning.specs.declared.access.Where.TheVariants.{At, Within}
 use Rattle.core_meaning.specs.Act.{Calls, value}
 use Rattle.mid_code.specs.declared.instr.Op.TheVariants.{Add, Sub, And, Or, Xor}
 use Rattle.mid_code.specs.declared.instr.Mid.{Mid}
@@ -36,11 +36,14 @@ use Rattle.lower_expr.specs.Held.{held, is_signed, result_of, IsHeld, IsHighHeld
 use Rattle.lower_expr.specs.Runs.{After, Keeps}
 use Rattle.lower_expr.specs.Locals.{Holds, IsResult}
 use Rattle.lower_expr.specs.Covered.{CoversBin, CoversUn, CoversConvert, IsCovered, IsLoaded, IsShortUnsigned}
-use Rattle.lower_expr.specs.Code.{labels, load_code, store_code, expr_code}
+use Rattle.lower_expr.specs.Code.{labels, local_code, load_code, store_code, expr_code}
 use Rattle.lower_expr.specs.Pieces.{binary_code, convert_code, fit_code, high_code, truth_code, unary_code, zero_code, move_code}
 use Rattle.lower_expr.proofs.Values.{keeps_refl, keeps_put, keeps_on, holds_put, still}
 use Rattle.lower_expr.proofs.Numbers.{Is32Bits, negated, low_wrapped_wide, no_high_of, rest_wrapped, high_sum, wide_low_sum, high_difference, wide_low_difference, and_word, or_word, xor_word, low_of_word, byte_low, equal_low, less_low, le_is, low_byte, number_of_low, low_sum, low_difference, low_wrapped, low_word, word_number, wrapped_again}
 use Rattle.lower_expr.proofs.Halves.{and_halves, equal_halves, not_low, or_halves, wide_not_high, wide_not_low, xor_halves}
+use Rattle.lower_expr.proofs.Helped.{divided_runs, signed_quotient, signed_rest, unsigned_quotient, unsigned_rest}
+use Rattle.lower_expr.proofs.Kept.{local_kept_runs, nothing_first}
+use Rattle.lower_expr.proofs.Order.{wide_at_most, wide_less, wide_order_runs}
 use Rattle.lower_expr.proofs.Wide.{apart_tested, high_of, non_zero_test_runs, not_runs, sign_runs, tested, wide_at, wide_bits_runs, wide_equal_runs, wide_negated_runs, zero_test_runs, zero_truth_runs}
 use Rattle.lower_expr.proofs.Pieces.{Next, as_number, at_here, byte_runs, label_runs, local_runs, first_runs, last_runs, test_runs, const_runs, load_runs, narrow_at, narrow_runs, wide_load_runs, wide_store_runs, wide_sum_runs, set_runs, store_runs}
 
@@ -132,14 +135,34 @@ module _ (codes : MidCode) (f : ℕ) (rest : List Activation) (labelled : IsLabe
   sum_runs bin.Lt I8 second x y r l pc end after env first values frame ok le hx hy s h k next = absurd ok
   sum_runs bin.Lt U8 second x y r l pc end after env first values frame ok le hx hy s h k next = absurd ok
   sum_runs bin.Lt I32 second x y r l pc end after env first values frame ok le hx hy s h k next = absurd ok
-  sum_runs bin.Lt U32 second x y r l pc end after env first values frame ok le hx hy s h k next = absurd ok
+  sum_runs bin.Lt U32 second x y r l pc end after env first values frame ok le hx hy s h k next =
+      wide_order_runs codes f rest labelled n p types spots base (int_lt x y) test.LtU x y r l pc end after env first values frame le (wide_less x y hx.number hy.number) hx hy s h k next
   sum_runs bin.Le I8 second x y r l pc end after env first values frame ok le hx hy s h k next = absurd ok
   sum_runs bin.Le U8 second x y r l pc end after env first values frame ok le hx hy s h k next = absurd ok
   sum_runs bin.Le I32 second x y r l pc end after env first values frame ok le hx hy s h k next = absurd ok
-  sum_runs bin.Le U32 second x y r l pc end after env first values frame ok le hx hy s h k next = absurd ok
+  sum_runs bin.Le U32 second x y r l pc end after env first values frame ok le hx hy s h k next =
+      wide_order_runs codes f rest labelled n p types spots base (not (int_lt y x)) test.LeU x y r l pc end after env first values frame le (wide_at_most x y hx.number hy.number) hx hy s h k next
   sum_runs bin.Mul t second x y r l pc end after env first values frame ok le hx hy s h k next = absurd ok
-  sum_runs bin.Div t second x y r l pc end after env first values frame ok le hx hy s h k next = absurd ok
-  sum_runs bin.Rem t second x y r l pc end after env first values frame ok le hx hy s h k next = absurd ok
+  sum_runs bin.Div I16 second x y r l pc end after env first values frame ok le hx hy s h k next =
+      divided_runs codes f rest labelled n p types spots base (is_zero y) 17 I16 x y (wrapped I16 (int_div x y)) r l pc end after env first values frame le refl (wrapped_again I16 (int_div x y)) refl
+      (signed_quotient codes x y hx.number hy.number) hx hy s h k next
+  sum_runs bin.Div U16 second x y r l pc end after env first values frame ok le hx hy s h k next =
+      divided_runs codes f rest labelled n p types spots base (is_zero y) 25 U16 x y (wrapped U16 (int_div x y)) r l pc end after env first values frame le refl (wrapped_again U16 (int_div x y)) refl
+      (unsigned_quotient codes x y hx.number hy.number) hx hy s h k next
+  sum_runs bin.Div I8 second x y r l pc end after env first values frame ok le hx hy s h k next = absurd ok
+  sum_runs bin.Div U8 second x y r l pc end after env first values frame ok le hx hy s h k next = absurd ok
+  sum_runs bin.Div I32 second x y r l pc end after env first values frame ok le hx hy s h k next = absurd ok
+  sum_runs bin.Div U32 second x y r l pc end after env first values frame ok le hx hy s h k next = absurd ok
+  sum_runs bin.Rem I16 second x y r l pc end after env first values frame ok le hx hy s h k next =
+      divided_runs codes f rest labelled n p types spots base (is_zero y) 18 I16 x y (wrapped I16 (int_rem x y)) r l pc end after env first values frame le refl (wrapped_again I16 (int_rem x y)) refl
+      (signed_rest codes x y hx.number hy.number) hx hy s h k next
+  sum_runs bin.Rem U16 second x y r l pc end after env first values frame ok le hx hy s h k next =
+      divided_runs codes f rest labelled n p types spots base (is_zero y) 26 U16 x y (wrapped U16 (int_rem x y)) r l pc end after env first values frame le refl (wrapped_again U16 (int_rem x y)) refl
+      (unsigned_rest codes x y hx.number hy.number) hx hy s h k next
+  sum_runs bin.Rem I8 second x y r l pc end after env first values frame ok le hx hy s h k next = absurd ok
+  sum_runs bin.Rem U8 second x y r l pc end after env first values frame ok le hx hy s h k next = absurd ok
+  sum_runs bin.Rem I32 second x y r l pc end after env first values frame ok le hx hy s h k next = absurd ok
+  sum_runs bin.Rem U32 second x y r l pc end after env first values frame ok le hx hy s h k next = absurd ok
   sum_runs bin.And I16 second x y r l pc end after env first values frame ok le hx hy s h k next =
       narrow_runs codes f rest labelled n p types spots base And I16 x y (wrapped I16 (pos (bit_and (low x) (low y)))) r pc end after env first values frame le refl (wrapped_again I16 (pos (bit_and (low x) (low y))))
       (low_of_word I16 tt (bit_and (low x) (low y)) (and_word x y)) hx hy s h k next
@@ -189,8 +212,8 @@ module _ (codes : MidCode) (f : ℕ) (rest : List Activation) (labelled : IsLabe
   second_of bin.Add t b ok h = h
   second_of bin.Sub t b ok h = h
   second_of bin.Mul t b ok h = absurd ok
-  second_of bin.Div t b ok h = absurd ok
-  second_of bin.Rem t b ok h = absurd ok
+  second_of bin.Div t b ok h = h
+  second_of bin.Rem t b ok h = h
   second_of bin.And t b ok h = h
   second_of bin.Or t b ok h = h
   second_of bin.Xor t b ok h = h
@@ -539,7 +562,7 @@ module _ (codes : MidCode) (f : ℕ) (rest : List Activation) (labelled : IsLabe
       (subst (λ u. IsHeld u x values1 r) (sym (held_is e from.0 from.1.1)) held1) s1.2 h1.holds h1.keeps
       (subst (λ u. Behind u r end values after) typed.0 next))
   expr_runs (plain.read (plain.local y) at) ty r l pc end after env values frame le typed covered s h next =
-      local_runs codes f rest labelled n p types spots base (slice_get spots y) (place_type p types (plain.local y)) y _ r pc end after env values values frame covered.0 covered.1
+      local_runs codes f rest labelled n p types spots base (slice_get spots y) (place_type p types (plain.local y)) y _ r pc end after env values values frame covered.0 covered.1 (h.bytes y typed.2)
       (h.at y typed.2) le s h (keeps_refl base r values) (subst (λ u. Behind u r end values after) typed.0 next)
   expr_runs (plain.choice question a b) ty r l pc end after env values frame le typed covered s h next =
       let s1 = split code pc end (expr_code p types checks spots question r (l + 2)) _ s in
@@ -609,11 +632,24 @@ module _ (codes : MidCode) (f : ℕ) (rest : List Activation) (labelled : IsLabe
       let s2 = split code (pc + 1) end (expr_code p types checks spots e (r + 2) (l + 0)) _ s.1 in
       set_runs codes f rest labelled n p types spots base (value p types calls e (λ v. store of (At a) v (λ _. after v)) env) r a pc values frame s.0
       (expr_runs e of (r + 2) (l + 0) (pc + 1) s2.0 (λ v. store of (At a) v (λ _. after v)) env (put values r a) frame (omega arith)
-      (subst (λ u. Has p types e u) typed.0 typed.3) covered.2 s2.1 (holds_put base p types spots env values frame r a le h)
+      (subst (λ u. Has p types e u) typed.0 typed.3) covered.1 s2.1 (holds_put base p types spots env values frame r a le h)
       (λ v env1 values1 frame1 h1.
-      stored_runs of a v r s2.0 end after env1 values values1 frame1 covered.1 le
+      stored_runs of a v r s2.0 end after env1 values values1 frame1 covered.0 le
       (h1.keeps.at r le (omega arith) ∙ put_same values r a) h1.is s2.2 h1.holds
       (keeps_on base r (r + 2) values (put values r a) values1 (omega arith) (keeps_put base r r a values values (omega arith) (keeps_refl base r values)) h1.keeps)
+      (subst (λ u. Behind u r end values after) typed.0 next)))
+  expr_runs (plain.assign (plain.local y) e at) ty r l pc end after env values frame le typed covered s h next =
+      let of : Ty = place_type p types (plain.local y) in
+      let s1 = split code pc end (local_code (slice_get spots y) r) _ s in
+      let s2 = split code s1.0 end (expr_code p types checks spots e (r + 2) (l + 0)) _ s1.2 in
+      at_end codes f rest n (value p types calls e (λ v. store of (Within y 0) v (λ _. after v)) env) pc s1.0 values frame
+      (nothing_first codes f rest labelled n p types spots base (slice_get spots y) r pc s1.0 covered.0.0 s1.1)
+      (expr_runs e of (r + 2) (l + 0) s1.0 s2.0 (λ v. store of (Within y 0) v (λ _. after v)) env values frame (omega arith)
+      (subst (λ u. Has p types e u) typed.0 typed.3) covered.1 s2.1 h
+      (λ v env1 values1 frame1 h1.
+      local_kept_runs codes f rest labelled n p types spots base (slice_get spots y) of y v r s2.0 end after env1 values values1 frame1 covered.0.0 covered.0.1 refl refl typed.2 le
+      (h1.holds.at y typed.2) h1.is s2.2 h1.holds
+      (keeps_on base r (r + 2) values values values1 (omega arith) (keeps_refl base r values) h1.keeps)
       (subst (λ u. Behind u r end values after) typed.0 next)))
   expr_runs (plain.read (plain.deref e t) at) ty r l pc end after env values frame le typed covered s h next = absurd covered
   expr_runs (plain.read (plain.index place e) at) ty r l pc end after env values frame le typed covered s h next = absurd covered
@@ -623,7 +659,6 @@ module _ (codes : MidCode) (f : ℕ) (rest : List Activation) (labelled : IsLabe
   expr_runs (plain.distance a b size) ty r l pc end after env values frame le typed covered s h next = absurd covered
   expr_runs (plain.update place op t e gives_old at) ty r l pc end after env values frame le typed covered s h next = absurd covered
   expr_runs (plain.call g arguments at) ty r l pc end after env values frame le typed covered s h next = absurd covered
-  expr_runs (plain.assign (plain.local y) e at) ty r l pc end after env values frame le typed covered s h next = absurd covered.0
   expr_runs (plain.assign (plain.deref u t) e at) ty r l pc end after env values frame le typed covered s h next = absurd covered.0
   expr_runs (plain.assign (plain.index place u) e at) ty r l pc end after env values frame le typed covered s h next = absurd covered.0
   expr_runs (plain.assign (plain.field place k) e at) ty r l pc end after env values frame le typed covered s h next = absurd covered.0

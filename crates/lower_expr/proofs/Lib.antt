@@ -6,4 +6,5 @@ pub mod Pieces
 pub mod Wide
 pub mod Kept
 pub mod Helped
+pub mod Order
 pub mod Exprs

@@ -111,10 +111,10 @@ low_word x lt = omega arith
 pub not_below : (x y : ℕ) → y ≤ x → nat_lt x y ≡ false
 not_below x y le = grind (arith, nat_tests)
 
-from_zero : (a half : ℕ) → a < half → signed_part (pos a) (pos half) ≡ pos a
+pub from_zero : (a half : ℕ) → a < half → signed_part (pos a) (pos half) ≡ pos a
 from_zero a half lt = ap (λ b. if b then pos a else pos a -ℤ pos half -ℤ pos half) (lt-ltb a half lt)
 
-from_half : (a half : ℕ) → half ≤ a → signed_part (pos a) (pos half) ≡ pos a -ℤ pos half -ℤ pos half
+pub from_half : (a half : ℕ) → half ≤ a → signed_part (pos a) (pos half) ≡ pos a -ℤ pos half -ℤ pos half
 from_half a half le = ap (λ b. if b then pos a else pos a -ℤ pos half -ℤ pos half) (not_below a half le)
 
 -- the numbers of a type

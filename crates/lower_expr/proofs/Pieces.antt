@@ -1,6 +1,6 @@
 -- The code of each operation does what the operation does.
 use Rattle.std.proofs.Common.{◌≡◌, ◌≢◌, ℕ, ◌+◌, ◌*◌, ◌/◌, ◌%◌, ◌<◌, ◌≤◌, Bool, true, false, List, [], ◌∷◌, ◌++◌, Option, Some, None, refl, sym, ap, ◌∙◌, subst, arith}
-use Rattle.std.specs.Prelude.{ℤ, pos, slice_get, slice_index_or, bit_and, not, ◌==◌}
+use Rattle.std.specs.Prelude.{ℤ, pos, slice_get, slice_index, slice_index_or, bit_and, not, ◌==◌}
 use Rattle.std.proofs.lemmas.Nat.{and_mask}
 use Rattle.nm_base.specs.declared.int_type.IntType.{IntType}
 use Rattle.nm_base.specs.declared.int_type.IntType.TheVariants.{I8, U8, I16, U16, I32, U32}
@@ -9,6 +9,7 @@ use Rattle.nm_base.specs.Behaviour.{Behaviour, Asks, Does}
 use Rattle.nesc_core.specs.Plain.{Ty, void, int, pointer, array, struct, Program}
 use Rattle.nesc_core.specs.Typing.{IsScalar}
 use Rattle.core_meaning.specs.Numbers.{residue, truth, is_zero}
+use Rattle.core_meaning.specs.Layout.{size_of}
 use Rattle.core_meaning.specs.Work.{Locals, load, store, number_of}
 use Rattle.core_meaning.specs.declared.access.Where.TheVariants.{At, Within}
 use Rattle.nm_base.specs.declared.action.Action.TheVariants as action
@@ -30,7 +31,7 @@ use Rattle.lower_expr.specs.declared.spot.Spot.{Spot}
 use Rattle.lower_expr.specs.declared.spot.Spot.TheVariants.{Values, Frame}
 use Rattle.lower_expr.specs.Held.{IsHeld, IsHighHeld, low, high}
 use Rattle.lower_expr.specs.Runs.{After, Keeps}
-use Rattle.lower_expr.specs.Locals.{Holds, IsResult, LocalIsHeld, local_value, number_in}
+use Rattle.lower_expr.specs.Locals.{HasBytes, Holds, IsResult, LocalIsHeld, local_value, number_in}
 use Rattle.lower_expr.specs.Code.{fetch_code, kind_of_spot, load_code, local_code, store_code, value_named}
 use Rattle.lower_expr.specs.Covered.{IsInValues, IsNumberSized, IsWordSized}
 use Rattle.lower_expr.specs.Pieces.{const_code, fit_code, move_code, sum_code, truth_code}
@@ -380,11 +381,11 @@ module _ (codes : MidCode) (f : ℕ) (rest : List Activation) (labels : IsLabell
 
   -- a local that is in values
   pub local_runs : (o : Option Spot) (ty : Ty) (y size r pc end : ℕ) (after : ℤ → Locals → Behaviour) (env : Locals) (first values frame : ℕ → ℕ) →
-      IsInValues o → IsNumberSized ty → LocalIsHeld base o ty size (slice_index_or env y []) values frame → base ≤ r →
+      IsInValues o → IsNumberSized ty → HasBytes (size_of p ty) (slice_index_or env y []) → LocalIsHeld base o ty size (slice_index_or env y []) values frame → base ≤ r →
       Stands code pc (local_code o r ++ fetch_code (kind_of_spot o) (number_of ty) r r) end →
       Holds p types spots base env values frame → Keeps base r first values → Next ty r end first after →
       Runs codes n (load ty (Within y 0) after env) (at_here pc values frame)
-  local_runs (Some (Values regs)) (int U8) y size r pc end after env first values frame inside ok held le s h k next =
+  local_runs (Some (Values regs)) (int U8) y size r pc end after env first values frame inside ok sized held le s h k next =
       let v : ℤ = local_value U8 (slice_index_or env y []) in
       let x : ℕ = values (value_named regs.low) in
       goes codes n (after v env) _ (at_here (pc + 1) (put values r x) frame) (does codes f rest pc values frame (Move r (value_named regs.low)) s.0)
@@ -394,7 +395,7 @@ module _ (codes : MidCode) (f : ℕ) (rest : List Activation) (labels : IsLabell
         keeps = keeps_put base r r x first values (omega arith) k;
         is = narrow_at U8 v r x values refl (wrapped_again U8 (pos (number_in U8 (slice_index_or env y [])))) held.low_half;
       })))
-  local_runs (Some (Values regs)) (int I16) y size r pc end after env first values frame inside ok held le s h k next =
+  local_runs (Some (Values regs)) (int I16) y size r pc end after env first values frame inside ok sized held le s h k next =
       let v : ℤ = local_value I16 (slice_index_or env y []) in
       let x : ℕ = values (value_named regs.low) in
       goes codes n (after v env) _ (at_here (pc + 1) (put values r x) frame) (does codes f rest pc values frame (Move r (value_named regs.low)) s.0)
@@ -404,7 +405,7 @@ module _ (codes : MidCode) (f : ℕ) (rest : List Activation) (labels : IsLabell
         keeps = keeps_put base r r x first values (omega arith) k;
         is = narrow_at I16 v r x values refl (wrapped_again I16 (pos (number_in I16 (slice_index_or env y [])))) held.low_half;
       })))
-  local_runs (Some (Values regs)) (int U16) y size r pc end after env first values frame inside ok held le s h k next =
+  local_runs (Some (Values regs)) (int U16) y size r pc end after env first values frame inside ok sized held le s h k next =
       let v : ℤ = local_value U16 (slice_index_or env y []) in
       let x : ℕ = values (value_named regs.low) in
       goes codes n (after v env) _ (at_here (pc + 1) (put values r x) frame) (does codes f rest pc values frame (Move r (value_named regs.low)) s.0)
@@ -414,8 +415,8 @@ module _ (codes : MidCode) (f : ℕ) (rest : List Activation) (labels : IsLabell
         keeps = keeps_put base r r x first values (omega arith) k;
         is = narrow_at U16 v r x values refl (wrapped_again U16 (pos (number_in U16 (slice_index_or env y [])))) held.low_half;
       })))
-  local_runs (Some (Values regs)) void y size r pc end after env first values frame inside ok held le s h k next = absurd ok
-  local_runs (Some (Values regs)) (int I8) y size r pc end after env first values frame inside ok held le s h k next =
+  local_runs (Some (Values regs)) void y size r pc end after env first values frame inside ok sized held le s h k next = absurd ok
+  local_runs (Some (Values regs)) (int I8) y size r pc end after env first values frame inside ok sized held le s h k next =
       let v : ℤ = local_value I8 (slice_index_or env y []) in
       let x : ℕ = values (value_named regs.low) in
       goes codes n (after v env) _ (at_here (pc + 1) (put values r x) frame) (does codes f rest pc values frame (Move r (value_named regs.low)) s.0)
@@ -425,7 +426,7 @@ module _ (codes : MidCode) (f : ℕ) (rest : List Activation) (labels : IsLabell
         keeps = keeps_put base r r x first values (omega arith) k;
         is = narrow_at I8 v r x values refl (wrapped_again I8 (pos (number_in I8 (slice_index_or env y [])))) held.low_half;
       })))
-  local_runs (Some (Values regs)) (int I32) y size r pc end after env first values frame inside ok held le s h k next =
+  local_runs (Some (Values regs)) (int I32) y size r pc end after env first values frame inside ok sized held le s h k next =
       let v : ℤ = local_value I32 (slice_index_or env y []) in
       let x : ℕ = values (value_named regs.low) in
       let one : ℕ → ℕ = put values r x in
@@ -444,7 +445,7 @@ module _ (codes : MidCode) (f : ℕ) (rest : List Activation) (labels : IsLabell
           high_half = put_same one (r + 1) z ∙ z_is;
         };
       }))))
-  local_runs (Some (Values regs)) (int U32) y size r pc end after env first values frame inside ok held le s h k next =
+  local_runs (Some (Values regs)) (int U32) y size r pc end after env first values frame inside ok sized held le s h k next =
       let v : ℤ = local_value U32 (slice_index_or env y []) in
       let x : ℕ = values (value_named regs.low) in
       let one : ℕ → ℕ = put values r x in
@@ -463,11 +464,24 @@ module _ (codes : MidCode) (f : ℕ) (rest : List Activation) (labels : IsLabell
           high_half = put_same one (r + 1) z ∙ z_is;
         };
       }))))
-  local_runs (Some (Values regs)) (pointer t) y size r pc end after env first values frame inside ok held le s h k next = absurd ok
-  local_runs (Some (Values regs)) (array t m) y size r pc end after env first values frame inside ok held le s h k next = absurd ok
-  local_runs (Some (Values regs)) (struct j) y size r pc end after env first values frame inside ok held le s h k next = absurd ok
-  local_runs None ty y size r pc end after env first values frame inside ok held le s h k next = absurd inside
-  local_runs (Some (Frame o)) ty y size r pc end after env first values frame inside ok held le s h k next = absurd inside
+  local_runs (Some (Values regs)) (pointer t) y size r pc end after env first values frame inside ok sized held le s h k next =
+      let bytes : List ℕ = slice_index_or env y [] in
+      let b0 : slice_index bytes 0 < 256 = sized.small 0 (let q : 0 < 2 = omega arith in q) in
+      let b1 : slice_index bytes 1 < 256 = sized.small 1 (let q : 1 < 2 = omega arith in q) in
+      let v : ℤ = pos (number_in U16 bytes) in
+      let few : number_in U16 bytes < 65536 = omega (arith, b0, b1) in
+      let x : ℕ = values (value_named regs.low) in
+      goes codes n (after v env) _ (at_here (pc + 1) (put values r x) frame) (does codes f rest pc values frame (Move r (value_named regs.low)) s.0)
+      (at_end codes f rest n (after v env) (pc + 1) end (put values r x) frame s.1
+      (next v env (put values r x) frame (record {
+        holds = holds_put base p types spots env values frame r x le h;
+        keeps = keeps_put base r r x first values (omega arith) k;
+        is = narrow_at U16 v r x values refl (word_number (number_in U16 bytes) few) (held.low_half ∙ ap low (word_number (number_in U16 bytes) few));
+      })))
+  local_runs (Some (Values regs)) (array t m) y size r pc end after env first values frame inside ok sized held le s h k next = absurd ok
+  local_runs (Some (Values regs)) (struct j) y size r pc end after env first values frame inside ok sized held le s h k next = absurd ok
+  local_runs None ty y size r pc end after env first values frame inside ok sized held le s h k next = absurd inside
+  local_runs (Some (Frame o)) ty y size r pc end after env first values frame inside ok sized held le s h k next = absurd inside
 
   -- ---- a sum or a difference of 32 bits
 

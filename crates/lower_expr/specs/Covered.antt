@@ -3,7 +3,7 @@ use Rattle.std.specs.Prelude.{⊤, ◌≡◌, false, List, Option, Some, None, s
 use Rattle.nm_base.specs.declared.int_type.IntType.{IntType}
 use Rattle.nm_base.specs.declared.int_type.IntType.TheVariants.{I8, U8, I16, U16, I32, U32}
 use Rattle.nesc_core.specs.declared.tree.BinOp.{BinOp}
-use Rattle.nesc_core.specs.declared.tree.BinOp.TheVariants.{Add, Sub, And, Or, Xor, Eq, Ne, Lt, Le}
+use Rattle.nesc_core.specs.declared.tree.BinOp.TheVariants.{Add, Sub, Div, Rem, And, Or, Xor, Eq, Ne, Lt, Le}
 use Rattle.nesc_core.specs.declared.tree.UnOp.{UnOp}
 use Rattle.nesc_core.specs.declared.tree.UnOp.TheVariants.{IsZero, Neg, Not}
 use Rattle.lower_expr.specs.declared.spot.Spot.{Spot}
@@ -27,7 +27,12 @@ IsWord I16 = ⊤
 IsWord U16 = ⊤
 IsWord _ = ⊥
 
--- sums, differences, operations on bits and tests for equality of all widths, the order of words
+-- compared so far
+abbrev pub IsOrdered : IntType → Type 0
+IsOrdered U32 = ⊤
+IsOrdered t = IsWord t
+
+-- sums, differences, operations on bits and tests for equality of all widths; the division of words
 abbrev pub CoversBin : BinOp → IntType → Type 0
 CoversBin Add t = IsPromoted t
 CoversBin Sub t = IsPromoted t
@@ -36,8 +41,10 @@ CoversBin Or t = IsPromoted t
 CoversBin Xor t = IsPromoted t
 CoversBin Eq t = IsPromoted t
 CoversBin Ne t = IsPromoted t
-CoversBin Lt t = IsWord t
-CoversBin Le t = IsWord t
+CoversBin Lt t = IsOrdered t
+CoversBin Le t = IsOrdered t
+CoversBin Div t = IsWord t
+CoversBin Rem t = IsWord t
 CoversBin _ t = ⊥
 
 -- not negative, in one value
@@ -69,9 +76,10 @@ IsInValues None = ⊥
 IsInValues (Some (Values regs)) = ⊤
 IsInValues (Some (Frame o)) = ⊥
 
--- a number, of any width
+-- a number of any width, or a pointer
 abbrev pub IsNumberSized : Ty → Type 0
 IsNumberSized (int t) = ⊤
+IsNumberSized (pointer t) = ⊤
 IsNumberSized _ = ⊥
 
 -- a number that one value holds
@@ -79,16 +87,17 @@ abbrev pub IsKept : Ty → Type 0
 IsKept (int I8) = ⊤
 IsKept t = IsWordSized t
 
-abbrev pub IsObject : Place → Type 0
-IsObject (plain.object k) = ⊤
-IsObject _ = ⊥
-
 module _ (p : Program) (types : List Ty) (spots : List Spot) where
   -- an object, or a local in values
   abbrev pub IsRead : Place → Type 0
   IsRead (plain.object k) = IsLoaded (place_type p types (plain.object k))
   IsRead (plain.local x) = IsInValues (slice_get spots x) × IsNumberSized (place_type p types (plain.local x))
   IsRead _ = ⊥
+
+  abbrev pub IsAssigned : Place → Type 0
+  IsAssigned (plain.object k) = IsLoaded (place_type p types (plain.object k))
+  IsAssigned (plain.local x) = IsInValues (slice_get spots x) × IsKept (place_type p types (plain.local x))
+  IsAssigned _ = ⊥
 
   abbrev pub IsCovered : Expr → Type 0
   IsCovered (plain.const t x) = ⊤
@@ -100,7 +109,7 @@ module _ (p : Program) (types : List Ty) (spots : List Spot) where
   IsCovered (plain.both a b) = IsCovered a × IsCovered b
   IsCovered (plain.either a b) = IsCovered a × IsCovered b
   IsCovered (plain.choice test a b) = IsCovered test × IsCovered a × IsCovered b
-  IsCovered (plain.assign place e at) = IsObject place × IsLoaded (place_type p types place) × IsCovered e
+  IsCovered (plain.assign place e at) = IsAssigned place × IsCovered e
   IsCovered (plain.post k) = ⊤
   IsCovered (plain.port_in port) = ⊤
   IsCovered (plain.port_out port e) = IsCovered e
