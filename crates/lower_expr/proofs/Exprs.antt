@@ -1,6 +1,6 @@
 -- The code of an expression does what the expression does.
-use Rattle.std.proofs.Common.{◌≡◌, ℕ, ◌+◌, ◌/◌, ◌≤◌, Bool, true, false, List, [], ◌∷◌, ◌++◌, Option, Some, None, refl, sym, ap, ◌∙◌, subst, arith}
-use Rattle.std.specs.Prelude.{ℤ, pos, slice_get, bit_and, bit_or, bit_xor, not, nat_lt, nat_le, int_lt, int_div, int_rem, ◌==◌, if◌then◌else◌, ◌+ℤ◌, ◌-ℤ◌}
+use Rattle.std.proofs.Common.{◌≡◌, ℕ, ◌+◌, ◌/◌, ◌%◌, ◌≤◌, Bool, true, false, List, [], ◌∷◌, ◌++◌, Option, Some, None, refl, sym, ap, ◌∙◌, subst, arith}
+use Rattle.std.specs.Prelude.{ℤ, pos, slice_get, bit_and, bit_or, bit_xor, not, nat_lt, nat_le, int_lt, int_div, int_rem, ◌==◌, if◌then◌else◌, ◌+ℤ◌, ◌-ℤ◌, ◌*ℤ◌}
 use Rattle.std.specs.Ordering.{int_eq}
 use Rattle.nm_base.specs.declared.int_type.IntType.{IntType}
 use Rattle.nm_base.specs.declared.int_type.IntType.TheVariants.{I8, U8, I16, U16, I32, U32}
@@ -21,7 +21,7 @@ use Rattle.core_meaning.specs.declared.access.Where.TheVariants.{At, Within}
 use Rattle.core_meaning.specs.Act.{Calls, value}
 use Rattle.mid_code.specs.declared.instr.Op.TheVariants.{Add, Sub, And, Or, Xor}
 use Rattle.mid_code.specs.declared.instr.Mid.{Mid}
-use Rattle.mid_code.specs.declared.instr.Mid.TheVariants.{Set, Bin, In, Out, Post, Label, Jump}
+use Rattle.mid_code.specs.declared.instr.Mid.TheVariants.{Set, Move, Load, Store, Bin, In, Out, Post, Label, Jump}
 use Rattle.mid_code.specs.declared.instr.Test.TheVariants as test
 use Rattle.mid_code.specs.declared.code.MidCode.{MidCode}
 use Rattle.mid_code.specs.Words.{operate}
@@ -35,15 +35,17 @@ use Rattle.lower_expr.specs.declared.spot.Spot.{Spot}
 use Rattle.lower_expr.specs.Held.{held, is_signed, result_of, IsHeld, IsHighHeld, low, high}
 use Rattle.lower_expr.specs.Runs.{After, Keeps}
 use Rattle.lower_expr.specs.Locals.{Holds, IsResult}
-use Rattle.lower_expr.specs.Covered.{CoversBin, CoversUn, CoversConvert, IsCovered, IsLoaded, IsShortUnsigned}
+use Rattle.lower_expr.specs.Covered.{CoversBin, CoversUn, IsCovered, IsLoaded, IsShortUnsigned}
 use Rattle.lower_expr.specs.Code.{labels, local_code, load_code, store_code, expr_code}
 use Rattle.lower_expr.specs.Pieces.{binary_code, convert_code, fit_code, high_code, truth_code, unary_code, zero_code, move_code}
 use Rattle.lower_expr.proofs.Values.{keeps_refl, keeps_put, keeps_on, holds_put, still}
-use Rattle.lower_expr.proofs.Numbers.{Is32Bits, negated, low_wrapped_wide, no_high_of, rest_wrapped, high_sum, wide_low_sum, high_difference, wide_low_difference, and_word, or_word, xor_word, low_of_word, byte_low, equal_low, less_low, le_is, low_byte, number_of_low, low_sum, low_difference, low_wrapped, low_word, word_number, wrapped_again}
+use Rattle.lower_expr.proofs.Numbers.{Is32Bits, byte_of_low, negated, low_wrapped_wide, no_high_of, rest_wrapped, high_sum, wide_low_sum, high_difference, wide_low_difference, and_word, or_word, xor_word, low_of_word, byte_low, equal_low, less_low, le_is, low_byte, number_of_low, low_sum, low_difference, low_wrapped, low_word, word_number, wrapped_again}
 use Rattle.lower_expr.proofs.Halves.{and_halves, equal_halves, not_low, or_halves, wide_not_high, wide_not_low, xor_halves}
-use Rattle.lower_expr.proofs.Helped.{divided_runs, signed_quotient, signed_rest, unsigned_quotient, unsigned_rest}
+use Rattle.lower_expr.proofs.Helped.{divided_runs, helped_runs, signed_quotient, signed_rest, unsigned_quotient, unsigned_rest}
 use Rattle.lower_expr.proofs.Kept.{local_kept_runs, nothing_first}
 use Rattle.lower_expr.proofs.Order.{wide_at_most, wide_less, wide_order_runs}
+use Rattle.lower_expr.proofs.SignedBytes.{byte_again, low_of_byte, signed_byte_runs}
+use Rattle.lower_expr.proofs.Products.{signed_product, unsigned_product}
 use Rattle.lower_expr.proofs.Wide.{apart_tested, high_of, non_zero_test_runs, not_runs, sign_runs, tested, wide_at, wide_bits_runs, wide_equal_runs, wide_negated_runs, zero_test_runs, zero_truth_runs}
 use Rattle.lower_expr.proofs.Pieces.{Next, as_number, at_here, byte_runs, label_runs, local_runs, first_runs, last_runs, test_runs, const_runs, load_runs, narrow_at, narrow_runs, wide_load_runs, wide_store_runs, wide_sum_runs, set_runs, store_runs}
 
@@ -142,7 +144,14 @@ module _ (codes : MidCode) (f : ℕ) (rest : List Activation) (labelled : IsLabe
   sum_runs bin.Le I32 second x y r l pc end after env first values frame ok le hx hy s h k next = absurd ok
   sum_runs bin.Le U32 second x y r l pc end after env first values frame ok le hx hy s h k next =
       wide_order_runs codes f rest labelled n p types spots base (not (int_lt y x)) test.LeU x y r l pc end after env first values frame le (wide_at_most x y hx.number hy.number) hx hy s h k next
-  sum_runs bin.Mul t second x y r l pc end after env first values frame ok le hx hy s h k next = absurd ok
+  sum_runs bin.Mul I16 second x y r l pc end after env first values frame ok le hx hy s h k next =
+      helped_runs codes f rest labelled n p types spots base 16 I16 x y (wrapped I16 (x *ℤ y)) r pc end after env first values frame le refl (wrapped_again I16 (x *ℤ y)) (signed_product codes x y) hx.low_half hy.low_half s h k next
+  sum_runs bin.Mul U16 second x y r l pc end after env first values frame ok le hx hy s h k next =
+      helped_runs codes f rest labelled n p types spots base 24 U16 x y (wrapped U16 (x *ℤ y)) r pc end after env first values frame le refl (wrapped_again U16 (x *ℤ y)) (unsigned_product codes x y) hx.low_half hy.low_half s h k next
+  sum_runs bin.Mul I8 second x y r l pc end after env first values frame ok le hx hy s h k next = absurd ok
+  sum_runs bin.Mul U8 second x y r l pc end after env first values frame ok le hx hy s h k next = absurd ok
+  sum_runs bin.Mul I32 second x y r l pc end after env first values frame ok le hx hy s h k next = absurd ok
+  sum_runs bin.Mul U32 second x y r l pc end after env first values frame ok le hx hy s h k next = absurd ok
   sum_runs bin.Div I16 second x y r l pc end after env first values frame ok le hx hy s h k next =
       divided_runs codes f rest labelled n p types spots base (is_zero y) 17 I16 x y (wrapped I16 (int_div x y)) r l pc end after env first values frame le refl (wrapped_again I16 (int_div x y)) refl
       (signed_quotient codes x y hx.number hy.number) hx hy s h k next
@@ -211,7 +220,7 @@ module _ (codes : MidCode) (f : ℕ) (rest : List Activation) (labelled : IsLabe
   second_of : (op : BinOp) (t : IntType) (b : Expr) → CoversBin op t → IsSecond op t (Has p types b) → Has p types b (int t)
   second_of bin.Add t b ok h = h
   second_of bin.Sub t b ok h = h
-  second_of bin.Mul t b ok h = absurd ok
+  second_of bin.Mul t b ok h = h
   second_of bin.Div t b ok h = h
   second_of bin.Rem t b ok h = h
   second_of bin.And t b ok h = h
@@ -368,7 +377,12 @@ module _ (codes : MidCode) (f : ℕ) (rest : List Activation) (labelled : IsLabe
       Runs codes n (load of (At a) after env) (here pc values frame)
   loaded_runs (int I32) a r pc end after env first values frame ok le e s h k next = wide_load_runs codes f rest labelled n p types spots base I32 a r pc end after env first values frame tt le e s h k next
   loaded_runs (int U32) a r pc end after env first values frame ok le e s h k next = wide_load_runs codes f rest labelled n p types spots base U32 a r pc end after env first values frame tt le e s h k next
-  loaded_runs (int I8) a r pc end after env first values frame ok le e s h k next = absurd ok
+  loaded_runs (int I8) a r pc end after env first values frame ok le e s h k next =
+      subst (λ u. Runs codes n (load (int I8) (At u) after env) (here pc values frame)) e
+      (wants codes n (action.Load (values r) false) (λ x. after (wrapped I8 (pos x)) env) _ (λ x. here (pc + 1) (put values r (x % 256)) frame) (does codes f rest pc values frame (Load false r r) s.0)
+      (λ x lt. subst (λ z. Runs codes n (after z env) (here (pc + 1) (put values r (x % 256)) frame)) (byte_again x)
+      (signed_byte_runs codes f rest labelled n p types spots base (pos (x % 256)) r (pc + 1) end after env first (put values r (x % 256)) frame le (put_same values r (x % 256) ∙ low_of_byte x) s.1
+      (holds_put base p types spots env values frame r (x % 256) le h) (keeps_put base r r (x % 256) first values (omega arith) k) next)))
   loaded_runs void a r pc end after env first values frame ok le e s h k next = absurd ok
   loaded_runs (array u m) a r pc end after env first values frame ok le e s h k next = absurd ok
   loaded_runs (struct j) a r pc end after env first values frame ok le e s h k next = absurd ok
@@ -395,31 +409,33 @@ module _ (codes : MidCode) (f : ℕ) (rest : List Activation) (labelled : IsLabe
       }))
 
   converted_runs : (t from : IntType) (v : ℤ) (r l pc end : ℕ) (after : ℤ → Locals → Behaviour) (env : Locals) (first values frame : ℕ → ℕ) →
-      CoversConvert from t → base ≤ r → IsHeld from v values r → Stands code pc (convert_code from t r l) end →
+      base ≤ r → IsHeld from v values r → Stands code pc (convert_code from t r l) end →
       Holds p types spots base env values frame → Keeps base r first values → Behind (int t) r end first after →
       Runs codes n (after (wrapped t v) env) (here pc values frame)
-  converted_runs I16 from v r l pc end after env first values frame ok le held s h k next =
+  converted_runs I16 from v r l pc end after env first values frame le held s h k next =
       at_end codes f rest n (after (wrapped I16 v) env) pc end values frame (subst (λ c. Stands code pc c end) (no_high_code (is_wide from) (is_signed from) r l) s)
       (next (wrapped I16 v) env values frame (record { holds = h; keeps = k; is = record { number = wrapped_again I16 v; low_half = held.low_half ∙ sym (low_wrapped I16 tt v); high_half = tt } }))
-  converted_runs U16 from v r l pc end after env first values frame ok le held s h k next =
+  converted_runs U16 from v r l pc end after env first values frame le held s h k next =
       at_end codes f rest n (after (wrapped U16 v) env) pc end values frame (subst (λ c. Stands code pc c end) (no_high_code (is_wide from) (is_signed from) r l) s)
       (next (wrapped U16 v) env values frame (record { holds = h; keeps = k; is = record { number = wrapped_again U16 v; low_half = held.low_half ∙ sym (low_wrapped U16 tt v); high_half = tt } }))
-  converted_runs U8 from v r l pc end after env first values frame ok le held s h k next =
+  converted_runs U8 from v r l pc end after env first values frame le held s h k next =
       byte_runs codes f rest labelled n p types spots base v (low v) r pc end after env first values frame le held.low_half (byte_low v)
       (subst (λ c. Stands code pc (fit_code U8 r ++ c) end) (no_high_code (is_wide from) (is_signed from) r l) s) h k next
-  converted_runs I8 from v r l pc end after env first values frame ok le held s h k next = absurd ok
-  converted_runs I32 U8 v r l pc end after env first values frame ok le held s h k next = widened_runs I32 U8 v r pc end after env first values frame refl tt tt le held s h k next
-  converted_runs I32 U16 v r l pc end after env first values frame ok le held s h k next = widened_runs I32 U16 v r pc end after env first values frame refl tt tt le held s h k next
-  converted_runs I32 I8 v r l pc end after env first values frame ok le held s h k next = sign_runs codes f rest labelled n p types spots base I32 I8 v r l pc end after env first values frame le tt tt held s h k next
-  converted_runs I32 I16 v r l pc end after env first values frame ok le held s h k next = sign_runs codes f rest labelled n p types spots base I32 I16 v r l pc end after env first values frame le tt tt held s h k next
-  converted_runs I32 I32 v r l pc end after env first values frame ok le held s h k next = kept_runs I32 I32 v r pc end after env first values frame tt tt held s h k next
-  converted_runs I32 U32 v r l pc end after env first values frame ok le held s h k next = kept_runs I32 U32 v r pc end after env first values frame tt tt held s h k next
-  converted_runs U32 U8 v r l pc end after env first values frame ok le held s h k next = widened_runs U32 U8 v r pc end after env first values frame refl tt tt le held s h k next
-  converted_runs U32 U16 v r l pc end after env first values frame ok le held s h k next = widened_runs U32 U16 v r pc end after env first values frame refl tt tt le held s h k next
-  converted_runs U32 I8 v r l pc end after env first values frame ok le held s h k next = sign_runs codes f rest labelled n p types spots base U32 I8 v r l pc end after env first values frame le tt tt held s h k next
-  converted_runs U32 I16 v r l pc end after env first values frame ok le held s h k next = sign_runs codes f rest labelled n p types spots base U32 I16 v r l pc end after env first values frame le tt tt held s h k next
-  converted_runs U32 I32 v r l pc end after env first values frame ok le held s h k next = kept_runs U32 I32 v r pc end after env first values frame tt tt held s h k next
-  converted_runs U32 U32 v r l pc end after env first values frame ok le held s h k next = kept_runs U32 U32 v r pc end after env first values frame tt tt held s h k next
+  converted_runs I8 from v r l pc end after env first values frame le held s h k next =
+      signed_byte_runs codes f rest labelled n p types spots base v r pc end after env first values frame le held.low_half
+      (subst (λ c. Stands code pc (fit_code I8 r ++ c) end) (no_high_code (is_wide from) (is_signed from) r l) s) h k next
+  converted_runs I32 U8 v r l pc end after env first values frame le held s h k next = widened_runs I32 U8 v r pc end after env first values frame refl tt tt le held s h k next
+  converted_runs I32 U16 v r l pc end after env first values frame le held s h k next = widened_runs I32 U16 v r pc end after env first values frame refl tt tt le held s h k next
+  converted_runs I32 I8 v r l pc end after env first values frame le held s h k next = sign_runs codes f rest labelled n p types spots base I32 I8 v r l pc end after env first values frame le tt tt held s h k next
+  converted_runs I32 I16 v r l pc end after env first values frame le held s h k next = sign_runs codes f rest labelled n p types spots base I32 I16 v r l pc end after env first values frame le tt tt held s h k next
+  converted_runs I32 I32 v r l pc end after env first values frame le held s h k next = kept_runs I32 I32 v r pc end after env first values frame tt tt held s h k next
+  converted_runs I32 U32 v r l pc end after env first values frame le held s h k next = kept_runs I32 U32 v r pc end after env first values frame tt tt held s h k next
+  converted_runs U32 U8 v r l pc end after env first values frame le held s h k next = widened_runs U32 U8 v r pc end after env first values frame refl tt tt le held s h k next
+  converted_runs U32 U16 v r l pc end after env first values frame le held s h k next = widened_runs U32 U16 v r pc end after env first values frame refl tt tt le held s h k next
+  converted_runs U32 I8 v r l pc end after env first values frame le held s h k next = sign_runs codes f rest labelled n p types spots base U32 I8 v r l pc end after env first values frame le tt tt held s h k next
+  converted_runs U32 I16 v r l pc end after env first values frame le held s h k next = sign_runs codes f rest labelled n p types spots base U32 I16 v r l pc end after env first values frame le tt tt held s h k next
+  converted_runs U32 I32 v r l pc end after env first values frame le held s h k next = kept_runs U32 I32 v r pc end after env first values frame tt tt held s h k next
+  converted_runs U32 U32 v r l pc end after env first values frame le held s h k next = kept_runs U32 U32 v r pc end after env first values frame tt tt held s h k next
 
   stored_runs : (of : Ty) (a : ℕ) (v : ℤ) (r pc end : ℕ) (after : ℤ → Locals → Behaviour) (env : Locals) (first values frame : ℕ → ℕ) →
       IsLoaded of → base ≤ r → values r ≡ a → IsResult of v values (r + 2) →
@@ -428,7 +444,19 @@ module _ (codes : MidCode) (f : ℕ) (rest : List Activation) (labelled : IsLabe
       Runs codes n (store of (At a) v (λ _. after v) env) (here pc values frame)
   stored_runs (int I32) a v r pc end after env first values frame ok le e held s h k next = wide_store_runs codes f rest labelled n p types spots base I32 a v r pc end after env first values frame tt le e held s h k next
   stored_runs (int U32) a v r pc end after env first values frame ok le e held s h k next = wide_store_runs codes f rest labelled n p types spots base U32 a v r pc end after env first values frame tt le e held s h k next
-  stored_runs (int I8) a v r pc end after env first values frame ok le e held s h k next = absurd ok
+  stored_runs (int I8) a v r pc end after env first values frame ok le e held s h k next =
+      let x : ℕ = values (r + 2) in
+      let is : x % 256 ≡ residue 8 v = ap (λ m. m % 256) held.low_half ∙ byte_of_low v in
+      subst (λ u. Runs codes n (Does (action.Store u false (residue 8 v)) (after v env)) (here pc values frame)) e
+      (subst (λ z. Runs codes n (Does (action.Store (values r) false z) (after v env)) (here pc values frame)) is
+      (acts_on codes n (action.Store (values r) false (x % 256)) (after v env) _ (here (pc + 1) values frame) (does codes f rest pc values frame (Store false (r + 2) r) s.0)
+      (goes codes n (after v env) _ (here (pc + 1 + 1) (put values r x) frame) (does codes f rest (pc + 1) values frame (Move r (r + 2)) s.1.0)
+      (at_end codes f rest n (after v env) (pc + 1 + 1) end (put values r x) frame s.1.1
+      (next v env (put values r x) frame (record {
+        holds = holds_put base p types spots env values frame r x le h;
+        keeps = keeps_put base r r x first values (omega arith) k;
+        is = narrow_at codes f rest labelled n p types spots base I8 v r x values refl held.number held.low_half;
+      }))))))
   stored_runs void a v r pc end after env first values frame ok le e held s h k next = absurd ok
   stored_runs (array u m) a v r pc end after env first values frame ok le e held s h k next = absurd ok
   stored_runs (struct j) a v r pc end after env first values frame ok le e held s h k next = absurd ok
@@ -555,10 +583,10 @@ module _ (codes : MidCode) (f : ℕ) (rest : List Activation) (labelled : IsLabe
   expr_runs (plain.convert t e) ty r l pc end after env values frame le typed covered s h next =
       let s1 = split code pc end (expr_code p types checks spots e r (l + 1)) (convert_code (held p types e) t r l) s in
       let from = typed.1 in
-      expr_runs e from.0 r (l + 1) pc s1.0 (λ x. after (wrapped t x)) env values frame le from.1.1 covered.1 s1.1 h
+      expr_runs e from.0 r (l + 1) pc s1.0 (λ x. after (wrapped t x)) env values frame le from.1.1 covered s1.1 h
       (λ x env1 values1 frame1 h1.
       let held1 = as_number codes f rest labelled n p types spots base from.0 x values1 r (converted_scalar t from.0 from.1.0) h1.is in
-      converted_runs t (held p types e) x r l s1.0 end after env1 values values1 frame1 covered.0 le
+      converted_runs t (held p types e) x r l s1.0 end after env1 values values1 frame1 le
       (subst (λ u. IsHeld u x values1 r) (sym (held_is e from.0 from.1.1)) held1) s1.2 h1.holds h1.keeps
       (subst (λ u. Behind u r end values after) typed.0 next))
   expr_runs (plain.read (plain.local y) at) ty r l pc end after env values frame le typed covered s h next =

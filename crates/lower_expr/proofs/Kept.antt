@@ -2,7 +2,7 @@
 use Rattle.std.proofs.Common.{◌≡◌, ◌≢◌, ℕ, ◌+◌, ◌-◌, ◌*◌, ◌/◌, ◌%◌, ◌<◌, ◌≤◌, Bool, true, false, List, [], ◌∷◌, ◌++◌, length, Option, Some, None, refl, sym, ap, ◌∙◌, subst, ⊎_elim, arith, get_or-set_same, get_or-set_other}
 use Rattle.std.specs.Prelude.{ℤ, pos, negsuc, slice_get, slice_index, slice_index_or, slice_set}
 use Rattle.std.specs.Int.{int_rem_euclid}
-use Rattle.std.proofs.lemmas.List.{length-set}
+use Rattle.std.proofs.lemmas.List.{length-set, set-set}
 use Rattle.std.proofs.lemmas.Bool.Decides.{eqb_tells}
 use Rattle.nm_base.specs.declared.int_type.IntType.{IntType}
 use Rattle.nm_base.specs.declared.int_type.IntType.TheVariants.{I8, U8, I16, U16, I32, U32}
@@ -25,14 +25,16 @@ use Rattle.mid_code.proofs.Written.{put_same, put_other}
 use Rattle.lower_expr.specs.declared.spot.Regs.{Regs}
 use Rattle.lower_expr.specs.declared.spot.Spot.{Spot}
 use Rattle.lower_expr.specs.declared.spot.Spot.TheVariants.{Values, Frame}
-use Rattle.lower_expr.specs.Held.{IsHeld, IsHighHeld, low}
+use Rattle.lower_expr.specs.Held.{IsHeld, IsHighHeld, high, low}
 use Rattle.lower_expr.specs.Runs.{Keeps}
 use Rattle.lower_expr.specs.Locals.{HasBytes, Holds, InRegs, IsHighBelow, IsResult, LocalIsHeld, local_value, number_in, value_at}
 use Rattle.lower_expr.specs.Code.{keep_code, kind_of_spot, local_code, put_code, value_named}
-use Rattle.lower_expr.specs.Covered.{IsInValues, IsKept}
+use Rattle.lower_expr.specs.Covered.{IsInValues, IsNumberSized}
 use Rattle.lower_expr.specs.Pieces.{move_code}
 use Rattle.lower_expr.proofs.Values.{keeps_below, keeps_put, holds_put}
-use Rattle.lower_expr.proofs.Numbers.{low_small, number_of_low}
+use Rattle.lower_expr.proofs.Numbers.{Is32Bits, low_small, rest_small, number_of_low}
+use Rattle.lower_expr.proofs.Halves.{number_of_rest}
+use Rattle.lower_expr.proofs.Wide.{high_of, is_wide_of, wide_at}
 use Rattle.lower_expr.proofs.Pieces.{Next, at_here, narrow_at}
 
 module _ (p : Program) (types : List Ty) (spots : List Spot) (base : ℕ) where
@@ -139,6 +141,44 @@ bytes_set size l o n lt h =
 word_set : (size : ℕ) (l : List ℕ) (n : ℕ) → n < 65536 → HasBytes size l → HasBytes size (two_bytes l n)
 word_set size l n lt h = bytes_set size (slice_set l 0 (n % 256)) 1 (n / 256) (omega (arith, lt)) (bytes_set size l 0 (n % 256) (omega arith) h)
 
+abbrev four_bytes : List ℕ → ℕ → List ℕ
+four_bytes l n = slice_set (slice_set (two_bytes l (n % 65536)) 2 (n / 65536 % 256)) 3 (n / 65536 / 256)
+
+long_in : (l : List ℕ) (n : ℕ) → length l ≡ 4 →
+    slice_index (four_bytes l n) 0 + 256 * slice_index (four_bytes l n) 1 + 65536 * (slice_index (four_bytes l n) 2 + 256 * slice_index (four_bytes l n) 3) ≡ n
+long_in l n e =
+    let a : ℕ = n % 65536 in
+    let b : ℕ = n / 65536 in
+    let l1 : List ℕ = slice_set l 0 (a % 256) in
+    let l2 : List ℕ = slice_set l1 1 (a / 256) in
+    let l3 : List ℕ = slice_set l2 2 (b % 256) in
+    let e1 : length l1 ≡ 4 = length-set l 0 (a % 256) ∙ e in
+    let e2 : length l2 ≡ 4 = length-set l1 1 (a / 256) ∙ e1 in
+    let e3 : length l3 ≡ 4 = length-set l2 2 (b % 256) ∙ e2 in
+    let s0 : slice_index (four_bytes l n) 0 ≡ a % 256 =
+    get_or-set_other l3 3 0 (b / 256) 0 (λ q. omega (arith, q)) ∙ get_or-set_other l2 2 0 (b % 256) 0 (λ q. omega (arith, q))
+    ∙ get_or-set_other l1 1 0 (a / 256) 0 (λ q. omega (arith, q)) ∙ get_or-set_same l 0 (a % 256) 0 (omega (arith, e)) in
+    let s1 : slice_index (four_bytes l n) 1 ≡ a / 256 =
+    get_or-set_other l3 3 1 (b / 256) 0 (λ q. omega (arith, q)) ∙ get_or-set_other l2 2 1 (b % 256) 0 (λ q. omega (arith, q)) ∙ get_or-set_same l1 1 (a / 256) 0 (omega (arith, e1)) in
+    let s2 : slice_index (four_bytes l n) 2 ≡ b % 256 = get_or-set_other l3 3 2 (b / 256) 0 (λ q. omega (arith, q)) ∙ get_or-set_same l2 2 (b % 256) 0 (omega (arith, e2)) in
+    let s3 : slice_index (four_bytes l n) 3 ≡ b / 256 = get_or-set_same l3 3 (b / 256) 0 (omega (arith, e3)) in
+    omega (arith, s0, s1, s2, s3)
+
+long_set : (size : ℕ) (l : List ℕ) (n : ℕ) → n < 4294967296 → HasBytes size l → HasBytes size (four_bytes l n)
+long_set size l n lt h =
+    bytes_set size (slice_set (two_bytes l (n % 65536)) 2 (n / 65536 % 256)) 3 (n / 65536 / 256) (omega (arith, lt))
+    (bytes_set size (two_bytes l (n % 65536)) 2 (n / 65536 % 256) (omega arith) (word_set size l (n % 65536) (omega arith) h))
+
+-- the two accesses of a number of 32 bits write its four bytes
+written_twice : (env : Locals) (y : ℕ) (n : ℕ) → y < length env →
+    slice_set (slice_set env y (two_bytes (slice_index_or env y []) (n % 65536))) y
+    (slice_set (slice_set (slice_index_or (slice_set env y (two_bytes (slice_index_or env y []) (n % 65536))) y []) 2 (n / 65536 % 256)) 3 (n / 65536 / 256))
+    ≡ slice_set env y (four_bytes (slice_index_or env y []) n)
+written_twice env y n lt =
+    let first : List ℕ = two_bytes (slice_index_or env y []) (n % 65536) in
+    ap (λ l. slice_set (slice_set env y first) y (slice_set (slice_set l 2 (n / 65536 % 256)) 3 (n / 65536 / 256))) (get_or-set_same env y first [] lt)
+    ∙ set-set env y first (four_bytes (slice_index_or env y []) n)
+
 module _ (codes : MidCode) (f : ℕ) (rest : List Activation) (labels : IsLabelled (fn_of codes f).code) (n : ℕ)
     (p : Program) (types : List Ty) (spots : List Spot) (base : ℕ) where
   abbrev code : List Mid
@@ -183,8 +223,59 @@ module _ (codes : MidCode) (f : ℕ) (rest : List Activation) (labels : IsLabell
         is = result (put one r z) r (narrow_at codes f rest labels n p types spots base (number_of ty) v r z one narrow held.number z_is);
       }))))
 
+  -- of two values
+  wide_kept_runs : (t : IntType) (y : ℕ) (regs : Regs) (bytes : List ℕ) (v : ℤ) (r pc end : ℕ) (after : ℤ → Locals → Behaviour) (env : Locals) (first values frame : ℕ → ℕ) →
+      Is32Bits t → slice_get spots y ≡ Some (Values regs) → type_of p types spots base y ≡ int t → y < length types → base ≤ r →
+      HasBytes (size_of p (int t)) bytes → local_value t bytes ≡ v → InRegs base t (local_value t (slice_index_or env y [])) values regs → IsHeld t v values (r + 2) →
+      Stands code pc (Move (value_named regs.low) (r + 2) ∷ Move (value_named regs.high) (r + 2 + 1) ∷ Move r (r + 2) ∷ Move (r + 1) (r + 2 + 1) ∷ []) end →
+      Holds p types spots base env values frame → Keeps base r first values → Behind (int t) r end first after →
+      Runs codes n (after v (slice_set env y bytes)) (here pc values frame)
+  wide_kept_runs t y regs bytes v r pc end after env first values frame ok spot_is type_is inside le sized is in_regs held s h k next =
+      let env1 : Locals = slice_set env y bytes in
+      let lo : ℕ = value_named regs.low in
+      let hi : ℕ = value_named regs.high in
+      let wide : Bool = is_wide (number_of (type_of p types spots base y)) in
+      let wide_here : wide ≡ true = ap (λ u. is_wide (number_of u)) type_is ∙ is_wide_of t ok in
+      let at_lo : value_at (slice_get spots y) false wide ≡ Some lo = ap (λ o. value_at o false wide) spot_is in
+      let at_hi : value_at (slice_get spots y) true wide ≡ Some hi = ap (λ o. value_at o true wide) spot_is ∙ ap (λ w. value_at (Some (Values regs)) true w) wide_here in
+      let differ : lo ≢ hi = λ e. let both = (h.apart y y lo false true inside inside at_lo (at_hi ∙ ap Some (sym e))).1 in absurd (cc) in
+      let low_below : lo < base = in_regs.low_below in
+      let high_below : hi < base = subst (λ w. IsHighBelow w base hi) (is_wide_of t ok) in_regs.high_below in
+      let x : ℕ = values (r + 2) in
+      let one : ℕ → ℕ = put values lo x in
+      let z : ℕ = one (r + 2 + 1) in
+      let two : ℕ → ℕ = put one hi z in
+      let low_two : ℕ = two (r + 2) in
+      let three : ℕ → ℕ = put two r low_two in
+      let high_three : ℕ = three (r + 2 + 1) in
+      let four : ℕ → ℕ = put three (r + 1) high_three in
+      let z_is : z ≡ high v = put_other values lo x (r + 2 + 1) (λ e. omega (arith, low_below, le, e)) ∙ high_of t v values (r + 2) ok held in
+      let low_is : low_two ≡ low v = put_other one hi z (r + 2) (λ e. omega (arith, high_below, le, e)) ∙ put_other values lo x (r + 2) (λ e. omega (arith, low_below, le, e)) ∙ held.low_half in
+      let high_is : high_three ≡ high v = put_other two r low_two (r + 2 + 1) (λ e. omega arith) ∙ put_other one hi z (r + 2 + 1) (λ e. omega (arith, high_below, le, e)) ∙ z_is in
+      let local : LocalIsHeld base (Some (Values regs)) (int t) (size_of p (int t)) bytes two frame = record {
+        low_below = in_regs.low_below;
+        high_below = in_regs.high_below;
+        low_half = put_other one hi z lo differ ∙ put_same values lo x ∙ held.low_half ∙ ap low (sym is);
+        high_half = subst (λ b. IsHighHeld b (local_value t bytes) two hi) (sym (is_wide_of t ok)) (put_same one hi z ∙ z_is ∙ ap high (sym is));
+      } in
+      let local_spot : LocalIsHeld base (slice_get spots y) (int t) (size_of p (int t)) bytes two frame = subst (λ o. LocalIsHeld base o (int t) (size_of p (int t)) bytes two frame) (sym spot_is) local in
+      let holds1 = local_written p types spots base y bytes env values two frame inside h
+      (subst (λ u. HasBytes (size_of p u) bytes) (sym type_is) sized)
+      (subst (λ u. LocalIsHeld base (slice_get spots y) u (size_of p u) bytes two frame) (sym type_is) local_spot)
+      (λ s other low_s. put_other one hi z s (λ e. other true (at_hi ∙ ap Some (sym e))) ∙ put_other values lo x s (λ e. other false (at_lo ∙ ap Some (sym e)))) in
+      goes codes n (after v env1) _ (here (pc + 1) one frame) (does codes f rest pc values frame (Move lo (r + 2)) s.0)
+      (goes codes n (after v env1) _ (here (pc + 1 + 1) two frame) (does codes f rest (pc + 1) one frame (Move hi (r + 2 + 1)) s.1.0)
+      (goes codes n (after v env1) _ (here (pc + 1 + 1 + 1) three frame) (does codes f rest (pc + 1 + 1) two frame (Move r (r + 2)) s.1.1.0)
+      (goes codes n (after v env1) _ (here (pc + 1 + 1 + 1 + 1) four frame) (does codes f rest (pc + 1 + 1 + 1) three frame (Move (r + 1) (r + 2 + 1)) s.1.1.1.0)
+      (at_end codes f rest n (after v env1) (pc + 1 + 1 + 1 + 1) end four frame s.1.1.1.1
+      (next v env1 four frame (record {
+        holds = holds_put base p types spots env1 three frame (r + 1) high_three (omega arith) (holds_put base p types spots env1 two frame r low_two le holds1);
+        keeps = keeps_put base r (r + 1) high_three first three (omega arith) (keeps_put base r r low_two first two (omega arith) (keeps_below base r hi z first one high_below (keeps_below base r lo x first values low_below k)));
+        is = wide_at t v four r ok held.number (put_other three (r + 1) high_three r (λ e. omega arith) ∙ put_same two r low_two ∙ low_is) (put_same three (r + 1) high_three ∙ high_is);
+      }))))))
+
   pub local_kept_runs : (o : Option Spot) (ty : Ty) (y : ℕ) (v : ℤ) (r pc end : ℕ) (after : ℤ → Locals → Behaviour) (env : Locals) (first values frame : ℕ → ℕ) →
-      IsInValues o → IsKept ty → slice_get spots y ≡ o → type_of p types spots base y ≡ ty → y < length types → base ≤ r →
+      IsInValues o → IsNumberSized ty → slice_get spots y ≡ o → type_of p types spots base y ≡ ty → y < length types → base ≤ r →
       LocalIsHeld base o ty (size_of p ty) (slice_index_or env y []) values frame → IsResult ty v values (r + 2) →
       Stands code pc (put_code (kind_of_spot o) (number_of ty) (r + 2) r ++ move_code (is_wide (number_of ty)) r (r + 2)) end →
       Holds p types spots base env values frame → Keeps base r first values → Behind ty r end first after →
@@ -219,8 +310,22 @@ module _ (codes : MidCode) (f : ℕ) (rest : List Activation) (labels : IsLabell
       let sized = subst (λ u. HasBytes (size_of p u) l) type_is (h.bytes y inside) in
       short_kept_runs (pointer t) y regs (two_bytes l w) v r pc end after env first values frame (λ new at is. is) refl spot_is type_is inside le
       (word_set 2 l w (low_small v) sized) (ap (λ m. wrapped U16 (pos m)) (word_in l w sized.length_is) ∙ number_of_low U16 tt v held.number) local held s h k next
-  local_kept_runs (Some (Values regs)) (int I32) y v r pc end after env first values frame in_values kept spot_is type_is inside le local held s h k next = absurd kept
-  local_kept_runs (Some (Values regs)) (int U32) y v r pc end after env first values frame in_values kept spot_is type_is inside le local held s h k next = absurd kept
+  local_kept_runs (Some (Values regs)) (int I32) y v r pc end after env first values frame in_values kept spot_is type_is inside le local held s h k next =
+      let l : List ℕ = slice_index_or env y [] in
+      let w : ℕ = residue 32 v in
+      let sized = subst (λ u. HasBytes (size_of p u) l) type_is (h.bytes y inside) in
+      let many = h.count in
+      subst (λ e. Runs codes n (after v e) (here pc values frame)) (sym (written_twice env y w (omega (arith, inside, many))))
+      (wide_kept_runs I32 y regs (four_bytes l w) v r pc end after env first values frame tt spot_is type_is inside le
+      (long_set 4 l w (rest_small v) sized) (ap (λ m. wrapped I32 (pos m)) (long_in l w sized.length_is) ∙ number_of_rest I32 tt v held.number) local held s h k next)
+  local_kept_runs (Some (Values regs)) (int U32) y v r pc end after env first values frame in_values kept spot_is type_is inside le local held s h k next =
+      let l : List ℕ = slice_index_or env y [] in
+      let w : ℕ = residue 32 v in
+      let sized = subst (λ u. HasBytes (size_of p u) l) type_is (h.bytes y inside) in
+      let many = h.count in
+      subst (λ e. Runs codes n (after v e) (here pc values frame)) (sym (written_twice env y w (omega (arith, inside, many))))
+      (wide_kept_runs U32 y regs (four_bytes l w) v r pc end after env first values frame tt spot_is type_is inside le
+      (long_set 4 l w (rest_small v) sized) (ap (λ m. wrapped U32 (pos m)) (long_in l w sized.length_is) ∙ number_of_rest U32 tt v held.number) local held s h k next)
   local_kept_runs (Some (Values regs)) void y v r pc end after env first values frame in_values kept spot_is type_is inside le local held s h k next = absurd kept
   local_kept_runs (Some (Values regs)) (array t m) y v r pc end after env first values frame in_values kept spot_is type_is inside le local held s h k next = absurd kept
   local_kept_runs (Some (Values regs)) (struct j) y v r pc end after env first values frame in_values kept spot_is type_is inside le local held s h k next = absurd kept

@@ -7,4 +7,6 @@ pub mod Wide
 pub mod Kept
 pub mod Helped
 pub mod Order
+pub mod SignedBytes
+pub mod Products
 pub mod Exprs

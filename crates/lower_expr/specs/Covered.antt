@@ -3,12 +3,11 @@ use Rattle.std.specs.Prelude.{⊤, ◌≡◌, false, List, Option, Some, None, s
 use Rattle.nm_base.specs.declared.int_type.IntType.{IntType}
 use Rattle.nm_base.specs.declared.int_type.IntType.TheVariants.{I8, U8, I16, U16, I32, U32}
 use Rattle.nesc_core.specs.declared.tree.BinOp.{BinOp}
-use Rattle.nesc_core.specs.declared.tree.BinOp.TheVariants.{Add, Sub, Div, Rem, And, Or, Xor, Eq, Ne, Lt, Le}
+use Rattle.nesc_core.specs.declared.tree.BinOp.TheVariants.{Add, Sub, Mul, Div, Rem, And, Or, Xor, Eq, Ne, Lt, Le}
 use Rattle.nesc_core.specs.declared.tree.UnOp.{UnOp}
 use Rattle.nesc_core.specs.declared.tree.UnOp.TheVariants.{IsZero, Neg, Not}
 use Rattle.lower_expr.specs.declared.spot.Spot.{Spot}
 use Rattle.lower_expr.specs.declared.spot.Spot.TheVariants.{Values, Frame}
-use Rattle.lower_expr.specs.Held.{held}
 use Rattle.nesc_core.specs.Plain.{Ty, void, int, pointer, array, struct, Expr, Place, Program}
 use Rattle.nesc_core.specs.Plain as plain
 use Rattle.nesc_core.specs.Typing.{IsPromoted}
@@ -32,7 +31,7 @@ abbrev pub IsOrdered : IntType → Type 0
 IsOrdered U32 = ⊤
 IsOrdered t = IsWord t
 
--- sums, differences, operations on bits and tests for equality of all widths; the division of words
+-- sums, differences, operations on bits and tests for equality of all widths; products and quotients of words
 abbrev pub CoversBin : BinOp → IntType → Type 0
 CoversBin Add t = IsPromoted t
 CoversBin Sub t = IsPromoted t
@@ -43,6 +42,7 @@ CoversBin Eq t = IsPromoted t
 CoversBin Ne t = IsPromoted t
 CoversBin Lt t = IsOrdered t
 CoversBin Le t = IsOrdered t
+CoversBin Mul t = IsWord t
 CoversBin Div t = IsWord t
 CoversBin Rem t = IsWord t
 CoversBin _ t = ⊥
@@ -53,15 +53,8 @@ IsShortUnsigned U8 = ⊤
 IsShortUnsigned U16 = ⊤
 IsShortUnsigned _ = ⊥
 
-abbrev pub CoversConvert : (from to : IntType) → Type 0
-CoversConvert from U8 = ⊤
-CoversConvert from I16 = ⊤
-CoversConvert from U16 = ⊤
-CoversConvert from I32 = ⊤
-CoversConvert from U32 = ⊤
-CoversConvert from I8 = ⊥
-
 abbrev pub IsLoaded : Ty → Type 0
+IsLoaded (int I8) = ⊤
 IsLoaded (int I32) = ⊤
 IsLoaded (int U32) = ⊤
 IsLoaded t = IsWordSized t
@@ -82,11 +75,6 @@ IsNumberSized (int t) = ⊤
 IsNumberSized (pointer t) = ⊤
 IsNumberSized _ = ⊥
 
--- a number that one value holds
-abbrev pub IsKept : Ty → Type 0
-IsKept (int I8) = ⊤
-IsKept t = IsWordSized t
-
 module _ (p : Program) (types : List Ty) (spots : List Spot) where
   -- an object, or a local in values
   abbrev pub IsRead : Place → Type 0
@@ -96,7 +84,7 @@ module _ (p : Program) (types : List Ty) (spots : List Spot) where
 
   abbrev pub IsAssigned : Place → Type 0
   IsAssigned (plain.object k) = IsLoaded (place_type p types (plain.object k))
-  IsAssigned (plain.local x) = IsInValues (slice_get spots x) × IsKept (place_type p types (plain.local x))
+  IsAssigned (plain.local x) = IsInValues (slice_get spots x) × IsNumberSized (place_type p types (plain.local x))
   IsAssigned _ = ⊥
 
   abbrev pub IsCovered : Expr → Type 0
@@ -105,7 +93,7 @@ module _ (p : Program) (types : List Ty) (spots : List Spot) where
   IsCovered (plain.read place at) = IsRead place
   IsCovered (plain.un op t e) = CoversUn op t × IsCovered e
   IsCovered (plain.bin op t a b) = CoversBin op t × IsCovered a × IsCovered b
-  IsCovered (plain.convert t e) = CoversConvert (held p types e) t × IsCovered e
+  IsCovered (plain.convert t e) = IsCovered e
   IsCovered (plain.both a b) = IsCovered a × IsCovered b
   IsCovered (plain.either a b) = IsCovered a × IsCovered b
   IsCovered (plain.choice test a b) = IsCovered test × IsCovered a × IsCovered b
