@@ -43,7 +43,7 @@ use Rattle.lower_expr.proofs.Numbers.{Is32Bits, byte_of_low, negated, low_wrappe
 use Rattle.lower_expr.proofs.Halves.{and_halves, equal_halves, not_low, or_halves, wide_not_high, wide_not_low, xor_halves}
 use Rattle.lower_expr.proofs.Helped.{divided_runs, helped_runs, signed_quotient, signed_rest, unsigned_quotient, unsigned_rest}
 use Rattle.lower_expr.proofs.Kept.{local_kept_runs, nothing_first}
-use Rattle.lower_expr.proofs.Order.{wide_at_most, wide_less, wide_order_runs}
+use Rattle.lower_expr.proofs.Order.{wide_at_most, wide_less, wide_order_runs, wide_signed_less}
 use Rattle.lower_expr.proofs.SignedBytes.{byte_again, low_of_byte, signed_byte_runs}
 use Rattle.lower_expr.proofs.Products.{signed_product, unsigned_product}
 use Rattle.lower_expr.proofs.Wide.{apart_tested, high_of, non_zero_test_runs, not_runs, sign_runs, tested, wide_at, wide_bits_runs, wide_equal_runs, wide_negated_runs, zero_test_runs, zero_truth_runs}
@@ -136,14 +136,15 @@ module _ (codes : MidCode) (f : ℕ) (rest : List Activation) (labelled : IsLabe
       wide_equal_runs codes f rest labelled n p types spots base (not (int_eq x y)) test.Ne U32 x y r l pc end after env first values frame le tt (ap not (equal_halves U32 tt x y hx.number hy.number)) hx hy s h k next
   sum_runs bin.Lt I8 second x y r l pc end after env first values frame ok le hx hy s h k next = absurd ok
   sum_runs bin.Lt U8 second x y r l pc end after env first values frame ok le hx hy s h k next = absurd ok
-  sum_runs bin.Lt I32 second x y r l pc end after env first values frame ok le hx hy s h k next = absurd ok
+  sum_runs bin.Lt I32 second x y r l pc end after env first values frame ok le hx hy s h k next =
+      wide_order_runs codes f rest labelled n p types spots base (int_lt x y) test.Lt test.LtU I32 x y r l pc end after env first values frame le tt (wide_signed_less x y hx.number hy.number) hx hy s h k next
   sum_runs bin.Lt U32 second x y r l pc end after env first values frame ok le hx hy s h k next =
-      wide_order_runs codes f rest labelled n p types spots base (int_lt x y) test.LtU x y r l pc end after env first values frame le (wide_less x y hx.number hy.number) hx hy s h k next
+      wide_order_runs codes f rest labelled n p types spots base (int_lt x y) test.LtU test.LtU U32 x y r l pc end after env first values frame le tt (wide_less x y hx.number hy.number) hx hy s h k next
   sum_runs bin.Le I8 second x y r l pc end after env first values frame ok le hx hy s h k next = absurd ok
   sum_runs bin.Le U8 second x y r l pc end after env first values frame ok le hx hy s h k next = absurd ok
   sum_runs bin.Le I32 second x y r l pc end after env first values frame ok le hx hy s h k next = absurd ok
   sum_runs bin.Le U32 second x y r l pc end after env first values frame ok le hx hy s h k next =
-      wide_order_runs codes f rest labelled n p types spots base (not (int_lt y x)) test.LeU x y r l pc end after env first values frame le (wide_at_most x y hx.number hy.number) hx hy s h k next
+      wide_order_runs codes f rest labelled n p types spots base (not (int_lt y x)) test.LtU test.LeU U32 x y r l pc end after env first values frame le tt (wide_at_most x y hx.number hy.number) hx hy s h k next
   sum_runs bin.Mul I16 second x y r l pc end after env first values frame ok le hx hy s h k next =
       helped_runs codes f rest labelled n p types spots base 16 I16 x y (wrapped I16 (x *ℤ y)) r pc end after env first values frame le refl (wrapped_again I16 (x *ℤ y)) (signed_product codes x y) hx.low_half hy.low_half s h k next
   sum_runs bin.Mul U16 second x y r l pc end after env first values frame ok le hx hy s h k next =

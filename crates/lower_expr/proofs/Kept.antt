@@ -1,7 +1,6 @@
 -- A number is written to a local that is in values.
 use Rattle.std.proofs.Common.{◌≡◌, ◌≢◌, ℕ, ◌+◌, ◌-◌, ◌*◌, ◌/◌, ◌%◌, ◌<◌, ◌≤◌, Bool, true, false, List, [], ◌∷◌, ◌++◌, length, Option, Some, None, refl, sym, ap, ◌∙◌, subst, ⊎_elim, arith, get_or-set_same, get_or-set_other}
 use Rattle.std.specs.Prelude.{ℤ, pos, negsuc, slice_get, slice_index, slice_index_or, slice_set}
-use Rattle.std.specs.Int.{int_rem_euclid}
 use Rattle.std.proofs.lemmas.List.{length-set, set-set}
 use Rattle.std.proofs.lemmas.Bool.Decides.{eqb_tells}
 use Rattle.nm_base.specs.declared.int_type.IntType.{IntType}
@@ -27,8 +26,8 @@ use Rattle.lower_expr.specs.declared.spot.Spot.{Spot}
 use Rattle.lower_expr.specs.declared.spot.Spot.TheVariants.{Values, Frame}
 use Rattle.lower_expr.specs.Held.{IsHeld, IsHighHeld, high, low}
 use Rattle.lower_expr.specs.Runs.{Keeps}
-use Rattle.lower_expr.specs.Locals.{HasBytes, Holds, InRegs, IsHighBelow, IsResult, LocalIsHeld, local_value, number_in, value_at}
-use Rattle.lower_expr.specs.Code.{keep_code, kind_of_spot, local_code, put_code, value_named}
+use Rattle.lower_expr.specs.Locals.{HasBytes, Holds, InRegs, IsHighBelow, IsResult, LocalIsHeld, local_value, value_at}
+use Rattle.lower_expr.specs.Code.{kind_of_spot, local_code, put_code, value_named}
 use Rattle.lower_expr.specs.Covered.{IsInValues, IsNumberSized}
 use Rattle.lower_expr.specs.Pieces.{move_code}
 use Rattle.lower_expr.proofs.Values.{keeps_below, keeps_put, holds_put}

@@ -1,5 +1,5 @@
 -- Products of words.
-use Rattle.std.proofs.Common.{◌≡◌, ℕ, zero, suc, ◌+◌, ◌-◌, ◌*◌, ◌/◌, ◌%◌, List, [], ◌∷◌, Option, Some, refl, sym, ap, ◌∙◌, arith, add-mul, mul-add, mul_assoc, mul_left_comm}
+use Rattle.std.proofs.Common.{◌≡◌, ℕ, zero, suc, ◌+◌, ◌-◌, ◌*◌, ◌/◌, ◌%◌, [], ◌∷◌, Some, refl, sym, ap, ◌∙◌, arith, add-mul, mul-add, mul_assoc, mul_left_comm}
 use Rattle.std.specs.Prelude.{ℤ, pos, negsuc, neg_ℤ, ◌*ℤ◌}
 use Rattle.std.proofs.lemmas.Nat.{mul-mod_first, mul-mod_second}
 use lib.IntN.{*ℤ-negsuc, negsuc-*ℤ-pos, pos-*ℤ-pos}

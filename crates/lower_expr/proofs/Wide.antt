@@ -1,7 +1,6 @@
 -- The code of operations on numbers of 32 bits, and of bits that are turned, does what the operations do.
-use Rattle.std.proofs.Common.{◌≡◌, ℕ, ◌+◌, ◌/◌, ◌≤◌, Bool, true, false, List, [], ◌∷◌, ◌++◌, Option, Some, None, refl, sym, ap, ◌∙◌, subst, arith}
-use Rattle.std.specs.Prelude.{ℤ, pos, negsuc, slice_get, slice_index_or, bit_or, bit_xor, int_lt, not, ◌==◌, ◌-ℤ◌}
-use Rattle.std.specs.Ordering.{int_eq}
+use Rattle.std.proofs.Common.{◌≡◌, ℕ, ◌+◌, ◌/◌, ◌≤◌, Bool, true, false, List, Some, refl, sym, ap, ◌∙◌, subst, arith}
+use Rattle.std.specs.Prelude.{ℤ, pos, negsuc, slice_get, bit_or, bit_xor, int_lt, not, ◌==◌, ◌-ℤ◌}
 use Rattle.nm_base.specs.declared.int_type.IntType.{IntType}
 use Rattle.nm_base.specs.declared.int_type.IntType.TheVariants.{I8, U8, I16, U16, I32, U32}
 use Rattle.nm_base.specs.IntType.{wrapped}
@@ -14,7 +13,7 @@ use Rattle.mid_code.specs.declared.instr.Op.TheVariants.{Sub, Or, Xor}
 use Rattle.mid_code.specs.declared.instr.Test.{Test}
 use Rattle.mid_code.specs.declared.instr.Test.TheVariants.{Eq, Ne, Le}
 use Rattle.mid_code.specs.declared.instr.Mid.{Mid}
-use Rattle.mid_code.specs.declared.instr.Mid.TheVariants.{Set, Move, Bin, Carry, Label, Branch}
+use Rattle.mid_code.specs.declared.instr.Mid.TheVariants.{Bin, Carry, Label}
 use Rattle.mid_code.specs.declared.code.MidCode.{MidCode}
 use Rattle.mid_code.specs.Machine.{Activation, fn_of, put}
 use Rattle.mid_code.specs.Words.{operate, carry, holds}
@@ -27,10 +26,10 @@ use Rattle.lower_expr.specs.declared.spot.Spot.{Spot}
 use Rattle.lower_expr.specs.Held.{IsHeld, IsHighHeld, low, high}
 use Rattle.lower_expr.specs.Runs.{Keeps}
 use Rattle.lower_expr.specs.Locals.{Holds}
-use Rattle.lower_expr.specs.Pieces.{bits_code, equal_code, truth_code, unary_code, widen_code, zero_code}
+use Rattle.lower_expr.specs.Pieces.{bits_code, equal_code, unary_code, widen_code, zero_code}
 use Rattle.nesc_core.specs.declared.tree.UnOp.TheVariants as un
 use Rattle.lower_expr.proofs.Values.{keeps_put, holds_put}
-use Rattle.lower_expr.proofs.Numbers.{Is16Bits, Is32Bits, high_difference, low_wrapped_wide, rest_wrapped, wide_low_difference, wrapped_again}
+use Rattle.lower_expr.proofs.Numbers.{Is32Bits, high_difference, low_wrapped_wide, rest_wrapped, wide_low_difference, wrapped_again}
 use Rattle.lower_expr.proofs.Halves.{IsShortSigned, differing, high_of_sign, sign_half, signed_word, zero_halves}
 use Rattle.lower_expr.proofs.Pieces.{Next, at_here, is_zero_runs, label_runs, narrow_at, non_zero_runs, set_runs, test_runs, zero_runs, zero_to}
 

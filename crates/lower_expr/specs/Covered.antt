@@ -1,5 +1,5 @@
 -- The expressions of which it is shown so far that their code does what they do.
-use Rattle.std.specs.Prelude.{⊤, ◌≡◌, false, List, Option, Some, None, slice_get}
+use Rattle.std.specs.Prelude.{⊤, List, Option, Some, None, slice_get}
 use Rattle.nm_base.specs.declared.int_type.IntType.{IntType}
 use Rattle.nm_base.specs.declared.int_type.IntType.TheVariants.{I8, U8, I16, U16, I32, U32}
 use Rattle.nesc_core.specs.declared.tree.BinOp.{BinOp}
@@ -40,7 +40,7 @@ CoversBin Or t = IsPromoted t
 CoversBin Xor t = IsPromoted t
 CoversBin Eq t = IsPromoted t
 CoversBin Ne t = IsPromoted t
-CoversBin Lt t = IsOrdered t
+CoversBin Lt t = IsPromoted t
 CoversBin Le t = IsOrdered t
 CoversBin Mul t = IsWord t
 CoversBin Div t = IsWord t
