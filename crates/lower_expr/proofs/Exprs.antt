@@ -43,7 +43,7 @@ use Rattle.lower_expr.proofs.Numbers.{Is32Bits, byte_of_low, negated, low_wrappe
 use Rattle.lower_expr.proofs.Halves.{and_halves, equal_halves, not_low, or_halves, wide_not_high, wide_not_low, xor_halves}
 use Rattle.lower_expr.proofs.Helped.{divided_runs, helped_runs, signed_quotient, signed_rest, unsigned_quotient, unsigned_rest}
 use Rattle.lower_expr.proofs.Kept.{local_kept_runs, nothing_first}
-use Rattle.lower_expr.proofs.Order.{wide_at_most, wide_less, wide_order_runs, wide_signed_less}
+use Rattle.lower_expr.proofs.Order.{wide_at_most, wide_less, wide_order_runs, wide_signed_at_most, wide_signed_less}
 use Rattle.lower_expr.proofs.SignedBytes.{byte_again, low_of_byte, signed_byte_runs}
 use Rattle.lower_expr.proofs.Products.{signed_product, unsigned_product}
 use Rattle.lower_expr.proofs.Wide.{apart_tested, high_of, non_zero_test_runs, not_runs, sign_runs, tested, wide_at, wide_bits_runs, wide_equal_runs, wide_negated_runs, zero_test_runs, zero_truth_runs}
@@ -142,7 +142,8 @@ module _ (codes : MidCode) (f : ℕ) (rest : List Activation) (labelled : IsLabe
       wide_order_runs codes f rest labelled n p types spots base (int_lt x y) test.LtU test.LtU U32 x y r l pc end after env first values frame le tt (wide_less x y hx.number hy.number) hx hy s h k next
   sum_runs bin.Le I8 second x y r l pc end after env first values frame ok le hx hy s h k next = absurd ok
   sum_runs bin.Le U8 second x y r l pc end after env first values frame ok le hx hy s h k next = absurd ok
-  sum_runs bin.Le I32 second x y r l pc end after env first values frame ok le hx hy s h k next = absurd ok
+  sum_runs bin.Le I32 second x y r l pc end after env first values frame ok le hx hy s h k next =
+      wide_order_runs codes f rest labelled n p types spots base (not (int_lt y x)) test.Lt test.LeU I32 x y r l pc end after env first values frame le tt (wide_signed_at_most x y hx.number hy.number) hx hy s h k next
   sum_runs bin.Le U32 second x y r l pc end after env first values frame ok le hx hy s h k next =
       wide_order_runs codes f rest labelled n p types spots base (not (int_lt y x)) test.LtU test.LeU U32 x y r l pc end after env first values frame le tt (wide_at_most x y hx.number hy.number) hx hy s h k next
   sum_runs bin.Mul I16 second x y r l pc end after env first values frame ok le hx hy s h k next =

@@ -12,7 +12,7 @@ use Rattle.nesc_core.specs.Plain.{Ty, int, Program}
 use Rattle.core_meaning.specs.Numbers.{residue, truth}
 use Rattle.core_meaning.specs.Work.{Locals}
 use Rattle.mid_code.specs.declared.instr.Test.{Test}
-use Rattle.mid_code.specs.declared.instr.Test.TheVariants.{Ne, LtU}
+use Rattle.mid_code.specs.declared.instr.Test.TheVariants.{Ne}
 use Rattle.mid_code.specs.declared.instr.Mid.{Mid}
 use Rattle.mid_code.specs.declared.instr.Mid.TheVariants.{Branch, Label}
 use Rattle.mid_code.specs.declared.code.MidCode.{MidCode}
@@ -164,6 +164,45 @@ wide_signed_less (negsuc a) (pos b) ex ey =
     let ha : a ≤ 2147483647 = omega (arith, ints, ta) in
     let hb : b ≤ 2147483647 = omega (arith, ints, tb) in
     sym (ap (λ u. by_halves u (high (negsuc a) == high (pos b)) (nat_lt (low (negsuc a)) (low (pos b))))
+    (ap (λ u. int_lt u (top (pos b))) (top_neg a ha) ∙ ap (int_lt (negsuc (a / 65536))) (top_pos b hb)))
+
+pub wide_signed_at_most : (x y : ℤ) → wrapped I32 x ≡ x → wrapped I32 y ≡ y → not (int_lt y x) ≡ by_halves (int_lt (top x) (top y)) (high x == high y) (nat_le (low x) (low y))
+wide_signed_at_most (pos a) (pos b) ex ey =
+    let ta = (range_of I32 (pos a) ex).1 in
+    let tb = (range_of I32 (pos b) ey).1 in
+    let ha : a ≤ 2147483647 = omega (arith, ints, ta) in
+    let hb : b ≤ 2147483647 = omega (arith, ints, tb) in
+    ap not (less_by_halves (nat_lt (b / 65536) (a / 65536)) (b / 65536 == a / 65536) b a refl refl)
+    ∙ not_by_halves (nat_lt (a / 65536) (b / 65536)) (a / 65536 == b / 65536) (a / 65536) (b / 65536) (nat_lt (b % 65536) (a % 65536)) refl refl
+    ∙ sym (alike _ _ _ _ _ _ (ap (λ u. int_lt u (top (pos b))) (top_pos a ha) ∙ ap (int_lt (pos (a / 65536))) (top_pos b hb))
+    (ap (λ u. u == high (pos b)) (high_pos a ha) ∙ ap (λ u. a / 65536 == u) (high_pos b hb)) (le_is (low (pos a)) (low (pos b))))
+wide_signed_at_most (negsuc a) (negsuc b) ex ey =
+    let ta = (range_of I32 (negsuc a) ex).0 in
+    let tb = (range_of I32 (negsuc b) ey).0 in
+    let ha : a ≤ 2147483647 = omega (arith, ints, ta) in
+    let hb : b ≤ 2147483647 = omega (arith, ints, tb) in
+    let pa = high_neg a ha in
+    let pb = high_neg b hb in
+    ap not (less_by_halves (nat_lt (a / 65536) (b / 65536)) (a / 65536 == b / 65536) a b refl refl)
+    ∙ not_by_halves (nat_lt (b / 65536) (a / 65536)) (b / 65536 == a / 65536) (b / 65536) (a / 65536) (nat_lt (a % 65536) (b % 65536)) refl refl
+    ∙ sym (alike _ _ _ _ _ _ (ap (λ u. int_lt u (top (negsuc b))) (top_neg a ha) ∙ ap (int_lt (negsuc (a / 65536))) (top_neg b hb))
+    (same_test (high (negsuc a)) (high (negsuc b)) (b / 65536) (a / 65536) (λ e. omega (arith, e, pa, pb, ha, hb)) (λ e. omega (arith, e, pa, pb)))
+    (le_is (low (negsuc a)) (low (negsuc b)) ∙ ap not (same_order (low (negsuc b)) (low (negsuc a)) (a % 65536) (b % 65536) _ refl (λ t. omega (arith, t)) (λ t. omega (arith, t)))))
+wide_signed_at_most (pos a) (negsuc b) ex ey =
+    let ta = (range_of I32 (pos a) ex).1 in
+    let tb = (range_of I32 (negsuc b) ey).0 in
+    let ha : a ≤ 2147483647 = omega (arith, ints, ta) in
+    let hb : b ≤ 2147483647 = omega (arith, ints, tb) in
+    let pa = high_pos a ha in
+    let pb = high_neg b hb in
+    sym (alike _ false _ false (nat_le (low (pos a)) (low (negsuc b))) _ (ap (λ u. int_lt u (top (negsuc b))) (top_pos a ha) ∙ ap (int_lt (pos (a / 65536))) (top_neg b hb))
+    (unequal (high (pos a)) (high (negsuc b)) (omega (arith, pa, pb, ha, hb))) refl)
+wide_signed_at_most (negsuc a) (pos b) ex ey =
+    let ta = (range_of I32 (negsuc a) ex).0 in
+    let tb = (range_of I32 (pos b) ey).1 in
+    let ha : a ≤ 2147483647 = omega (arith, ints, ta) in
+    let hb : b ≤ 2147483647 = omega (arith, ints, tb) in
+    sym (ap (λ u. by_halves u (high (negsuc a) == high (pos b)) (nat_le (low (negsuc a)) (low (pos b))))
     (ap (λ u. int_lt u (top (pos b))) (top_neg a ha) ∙ ap (int_lt (negsuc (a / 65536))) (top_pos b hb)))
 
 module _ (codes : MidCode) (f : ℕ) (rest : List Activation) (labels : IsLabelled (fn_of codes f).code) (n : ℕ)

@@ -26,12 +26,7 @@ IsWord I16 = ⊤
 IsWord U16 = ⊤
 IsWord _ = ⊥
 
--- compared so far
-abbrev pub IsOrdered : IntType → Type 0
-IsOrdered U32 = ⊤
-IsOrdered t = IsWord t
-
--- sums, differences, operations on bits and tests for equality of all widths; products and quotients of words
+-- sums, differences, operations on bits and comparisons of all widths; products and quotients of words
 abbrev pub CoversBin : BinOp → IntType → Type 0
 CoversBin Add t = IsPromoted t
 CoversBin Sub t = IsPromoted t
@@ -41,7 +36,7 @@ CoversBin Xor t = IsPromoted t
 CoversBin Eq t = IsPromoted t
 CoversBin Ne t = IsPromoted t
 CoversBin Lt t = IsPromoted t
-CoversBin Le t = IsOrdered t
+CoversBin Le t = IsPromoted t
 CoversBin Mul t = IsWord t
 CoversBin Div t = IsWord t
 CoversBin Rem t = IsWord t
