@@ -35,7 +35,7 @@ use Rattle.lower_expr.specs.declared.spot.Spot.{Spot}
 use Rattle.lower_expr.specs.Held.{held, is_signed, result_of, IsHeld, IsHighHeld, low, high}
 use Rattle.lower_expr.specs.Runs.{After, Keeps}
 use Rattle.lower_expr.specs.Locals.{Holds, IsResult}
-use Rattle.lower_expr.specs.Covered.{CoversBin, CoversUn, IsCovered, IsLoaded, IsShortUnsigned}
+use Rattle.lower_expr.specs.Covered.{CoversBin, CoversUn, IsCovered, IsNumberSized, IsShortUnsigned}
 use Rattle.lower_expr.specs.Code.{labels, local_code, load_code, store_code, expr_code}
 use Rattle.lower_expr.specs.Pieces.{binary_code, convert_code, fit_code, high_code, truth_code, unary_code, zero_code, move_code}
 use Rattle.lower_expr.proofs.Values.{keeps_refl, keeps_put, keeps_on, holds_put, still}
@@ -374,7 +374,7 @@ module _ (codes : MidCode) (f : ℕ) (rest : List Activation) (labelled : IsLabe
       })))
 
   loaded_runs : (of : Ty) (a r pc end : ℕ) (after : ℤ → Locals → Behaviour) (env : Locals) (first values frame : ℕ → ℕ) →
-      IsLoaded of → base ≤ r → values r ≡ a → Stands code pc (load_code (number_of of) r r) end →
+      IsNumberSized of → base ≤ r → values r ≡ a → Stands code pc (load_code (number_of of) r r) end →
       Holds p types spots base env values frame → Keeps base r first values → Behind of r end first after →
       Runs codes n (load of (At a) after env) (here pc values frame)
   loaded_runs (int I32) a r pc end after env first values frame ok le e s h k next = wide_load_runs codes f rest labelled n p types spots base I32 a r pc end after env first values frame tt le e s h k next
@@ -440,7 +440,7 @@ module _ (codes : MidCode) (f : ℕ) (rest : List Activation) (labelled : IsLabe
   converted_runs U32 U32 v r l pc end after env first values frame le held s h k next = kept_runs U32 U32 v r pc end after env first values frame tt tt held s h k next
 
   stored_runs : (of : Ty) (a : ℕ) (v : ℤ) (r pc end : ℕ) (after : ℤ → Locals → Behaviour) (env : Locals) (first values frame : ℕ → ℕ) →
-      IsLoaded of → base ≤ r → values r ≡ a → IsResult of v values (r + 2) →
+      IsNumberSized of → base ≤ r → values r ≡ a → IsResult of v values (r + 2) →
       Stands code pc (store_code (number_of of) (r + 2) r ++ move_code (is_wide (number_of of)) r (r + 2)) end →
       Holds p types spots base env values frame → Keeps base r first values → Behind of r end first after →
       Runs codes n (store of (At a) v (λ _. after v) env) (here pc values frame)

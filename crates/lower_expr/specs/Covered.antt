@@ -1,7 +1,7 @@
 -- The expressions of which it is shown so far that their code does what they do.
 use Rattle.std.specs.Prelude.{⊤, List, Option, Some, None, slice_get}
 use Rattle.nm_base.specs.declared.int_type.IntType.{IntType}
-use Rattle.nm_base.specs.declared.int_type.IntType.TheVariants.{I8, U8, I16, U16, I32, U32}
+use Rattle.nm_base.specs.declared.int_type.IntType.TheVariants.{U8, I16, U16}
 use Rattle.nesc_core.specs.declared.tree.BinOp.{BinOp}
 use Rattle.nesc_core.specs.declared.tree.BinOp.TheVariants.{Add, Sub, Mul, Div, Rem, And, Or, Xor, Eq, Ne, Lt, Le}
 use Rattle.nesc_core.specs.declared.tree.UnOp.{UnOp}
@@ -48,12 +48,6 @@ IsShortUnsigned U8 = ⊤
 IsShortUnsigned U16 = ⊤
 IsShortUnsigned _ = ⊥
 
-abbrev pub IsLoaded : Ty → Type 0
-IsLoaded (int I8) = ⊤
-IsLoaded (int I32) = ⊤
-IsLoaded (int U32) = ⊤
-IsLoaded t = IsWordSized t
-
 abbrev pub CoversUn : UnOp → IntType → Type 0
 CoversUn IsZero t = ⊤
 CoversUn Neg t = IsPromoted t
@@ -73,12 +67,12 @@ IsNumberSized _ = ⊥
 module _ (p : Program) (types : List Ty) (spots : List Spot) where
   -- an object, or a local in values
   abbrev pub IsRead : Place → Type 0
-  IsRead (plain.object k) = IsLoaded (place_type p types (plain.object k))
+  IsRead (plain.object k) = IsNumberSized (place_type p types (plain.object k))
   IsRead (plain.local x) = IsInValues (slice_get spots x) × IsNumberSized (place_type p types (plain.local x))
   IsRead _ = ⊥
 
   abbrev pub IsAssigned : Place → Type 0
-  IsAssigned (plain.object k) = IsLoaded (place_type p types (plain.object k))
+  IsAssigned (plain.object k) = IsNumberSized (place_type p types (plain.object k))
   IsAssigned (plain.local x) = IsInValues (slice_get spots x) × IsNumberSized (place_type p types (plain.local x))
   IsAssigned _ = ⊥
 
