@@ -3,7 +3,7 @@
 
     bench/steps.py PROGRAM       PROGRAM is a built nescmote, as crates/nescmote/out/nescmote
 
-Each number is a million slots over the processor time of the process, least of five, less the least of five with one
+Each number is a million slots over the processor time of the process, least of fifteen, less the least of fifteen with one
 slot. The two programs take turns. The images make no output: arithmetic is ADD, MOV to memory, ADD from memory, CMP
 and JNE; calls is CALL, ADD, RET, PUSH, POP and JMP; bytes is moves of bytes by four modes.
 """
@@ -16,7 +16,7 @@ import time
 HERE = pathlib.Path(__file__).resolve().parent
 EXAMPLES = HERE.parent / "examples"
 SLOTS = 1_000_000
-ROUNDS = 5
+ROUNDS = 15
 
 
 def processor_time(words):
