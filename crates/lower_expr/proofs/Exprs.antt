@@ -1,6 +1,6 @@
 -- The code of an expression does what the expression does.
 use Rattle.std.proofs.Common.{◌≡◌, ℕ, ◌+◌, ◌/◌, ◌%◌, ◌≤◌, Bool, true, false, List, [], ◌∷◌, ◌++◌, Option, Some, None, refl, sym, ap, ◌∙◌, subst, arith}
-use Rattle.std.specs.Prelude.{ℤ, pos, slice_get, bit_and, bit_or, bit_xor, not, nat_lt, nat_le, int_lt, int_div, int_rem, ◌==◌, if◌then◌else◌, ◌+ℤ◌, ◌-ℤ◌, ◌*ℤ◌}
+use Rattle.std.specs.Prelude.{ℤ, pos, slice_get, bit_and, bit_or, bit_xor, not, nat_lt, nat_le, int_lt, ◌==◌, if◌then◌else◌, ◌+ℤ◌, ◌-ℤ◌}
 use Rattle.std.specs.Ordering.{int_eq}
 use Rattle.nm_base.specs.declared.int_type.IntType.{IntType}
 use Rattle.nm_base.specs.declared.int_type.IntType.TheVariants.{I8, U8, I16, U16, I32, U32}
@@ -13,7 +13,7 @@ use Rattle.nesc_core.specs.declared.tree.UnOp.TheVariants as un
 use Rattle.nesc_core.specs.Plain.{Ty, void, int, pointer, array, struct, Expr, Place, Body, Program}
 use Rattle.nesc_core.specs.Plain as plain
 use Rattle.nesc_core.specs.PlaceTypes.{place_type}
-use Rattle.nesc_core.specs.Typing.{Has, IsConverted, IsScalar, IsPointer, IsStepped, IsCallable, IsSecond, binary_type}
+use Rattle.nesc_core.specs.Typing.{Has, IsConverted, IsScalar, IsPointer, IsStepped, IsCallable, IsPromoted, IsSecond, binary_type}
 use Rattle.core_meaning.specs.Numbers.{residue, binary, unary, is_zero, truth}
 use Rattle.core_meaning.specs.Layout.{object_address}
 use Rattle.core_meaning.specs.Work.{Locals, Work, give, load, store, or_fault, number_of}
@@ -35,17 +35,16 @@ use Rattle.lower_expr.specs.declared.spot.Spot.{Spot}
 use Rattle.lower_expr.specs.Held.{held, is_signed, result_of, IsHeld, IsHighHeld, low, high}
 use Rattle.lower_expr.specs.Runs.{After, Keeps}
 use Rattle.lower_expr.specs.Locals.{Holds, IsResult}
-use Rattle.lower_expr.specs.Covered.{CoversBin, CoversUn, IsCovered, IsNumberSized, IsShortUnsigned}
+use Rattle.lower_expr.specs.Covered.{IsCovered, IsNumberSized, IsShortUnsigned}
 use Rattle.lower_expr.specs.Code.{labels, local_code, load_code, store_code, expr_code}
 use Rattle.lower_expr.specs.Pieces.{binary_code, convert_code, fit_code, high_code, truth_code, unary_code, zero_code, move_code}
 use Rattle.lower_expr.proofs.Values.{keeps_refl, keeps_put, keeps_on, holds_put, still}
 use Rattle.lower_expr.proofs.Numbers.{Is32Bits, byte_of_low, negated, low_wrapped_wide, no_high_of, rest_wrapped, high_sum, wide_low_sum, high_difference, wide_low_difference, and_word, or_word, xor_word, low_of_word, byte_low, equal_low, less_low, le_is, low_byte, number_of_low, low_sum, low_difference, low_wrapped, low_word, word_number, wrapped_again}
 use Rattle.lower_expr.proofs.Halves.{and_halves, equal_halves, not_low, or_halves, wide_not_high, wide_not_low, xor_halves}
-use Rattle.lower_expr.proofs.Helped.{divided_runs, helped_runs, signed_quotient, signed_rest, unsigned_quotient, unsigned_rest}
+use Rattle.lower_expr.proofs.Helped.{left_runs, product_runs, quotient_runs, rest_runs, right_runs}
 use Rattle.lower_expr.proofs.Kept.{local_kept_runs, nothing_first}
 use Rattle.lower_expr.proofs.Order.{wide_at_most, wide_less, wide_order_runs, wide_signed_at_most, wide_signed_less}
 use Rattle.lower_expr.proofs.SignedBytes.{byte_again, low_of_byte, signed_byte_runs}
-use Rattle.lower_expr.proofs.Products.{signed_product, unsigned_product}
 use Rattle.lower_expr.proofs.Wide.{apart_tested, high_of, non_zero_test_runs, not_runs, sign_runs, tested, wide_at, wide_bits_runs, wide_equal_runs, wide_negated_runs, zero_test_runs, zero_truth_runs}
 use Rattle.lower_expr.proofs.Pieces.{Next, as_number, at_here, byte_runs, label_runs, local_runs, first_runs, last_runs, test_runs, const_runs, load_runs, narrow_at, narrow_runs, wide_load_runs, wide_store_runs, wide_sum_runs, set_runs, store_runs}
 
@@ -70,8 +69,14 @@ module _ (codes : MidCode) (f : ℕ) (rest : List Activation) (labelled : IsLabe
   null_is (array t m) h values r = absurd h
   null_is (struct k) h values r = absurd h
 
+  -- the count of a shift has a type of its own
+  abbrev SecondHeld : BinOp → IntType → (second : IntType) → ℤ → (ℕ → ℕ) → ℕ → Type 0
+  SecondHeld bin.Shl t second y values at = IsPromoted second × IsHeld second y values at
+  SecondHeld bin.Shr t second y values at = IsPromoted second × IsHeld second y values at
+  SecondHeld _ t second y values at = IsHeld t y values at
+
   sum_runs : (op : BinOp) (t : IntType) (second : IntType) (x y : ℤ) (r l pc end : ℕ) (after : ℤ → Locals → Behaviour) (env : Locals) (first values frame : ℕ → ℕ) →
-      CoversBin op t → base ≤ r → IsHeld t x values r → IsHeld t y values (r + 2) → Stands code pc (binary_code op t second r l) end →
+      IsPromoted t → base ≤ r → IsHeld t x values r → SecondHeld op t second y values (r + 2) → Stands code pc (binary_code op t second r l) end →
       Holds p types spots base env values frame → Keeps base r first values → Behind (int (binary_type op t)) r end first after →
       Runs codes n (or_fault 3 (binary op t x y) after env) (here pc values frame)
   sum_runs bin.Add I16 second x y r l pc end after env first values frame ok le hx hy s h k next =
@@ -146,34 +151,16 @@ module _ (codes : MidCode) (f : ℕ) (rest : List Activation) (labelled : IsLabe
       wide_order_runs codes f rest labelled n p types spots base (not (int_lt y x)) test.Lt test.LeU I32 x y r l pc end after env first values frame le tt (wide_signed_at_most x y hx.number hy.number) hx hy s h k next
   sum_runs bin.Le U32 second x y r l pc end after env first values frame ok le hx hy s h k next =
       wide_order_runs codes f rest labelled n p types spots base (not (int_lt y x)) test.LtU test.LeU U32 x y r l pc end after env first values frame le tt (wide_at_most x y hx.number hy.number) hx hy s h k next
-  sum_runs bin.Mul I16 second x y r l pc end after env first values frame ok le hx hy s h k next =
-      helped_runs codes f rest labelled n p types spots base 16 I16 x y (wrapped I16 (x *ℤ y)) r pc end after env first values frame le refl (wrapped_again I16 (x *ℤ y)) (signed_product codes x y) hx.low_half hy.low_half s h k next
-  sum_runs bin.Mul U16 second x y r l pc end after env first values frame ok le hx hy s h k next =
-      helped_runs codes f rest labelled n p types spots base 24 U16 x y (wrapped U16 (x *ℤ y)) r pc end after env first values frame le refl (wrapped_again U16 (x *ℤ y)) (unsigned_product codes x y) hx.low_half hy.low_half s h k next
-  sum_runs bin.Mul I8 second x y r l pc end after env first values frame ok le hx hy s h k next = absurd ok
-  sum_runs bin.Mul U8 second x y r l pc end after env first values frame ok le hx hy s h k next = absurd ok
-  sum_runs bin.Mul I32 second x y r l pc end after env first values frame ok le hx hy s h k next = absurd ok
-  sum_runs bin.Mul U32 second x y r l pc end after env first values frame ok le hx hy s h k next = absurd ok
-  sum_runs bin.Div I16 second x y r l pc end after env first values frame ok le hx hy s h k next =
-      divided_runs codes f rest labelled n p types spots base (is_zero y) 17 I16 x y (wrapped I16 (int_div x y)) r l pc end after env first values frame le refl (wrapped_again I16 (int_div x y)) refl
-      (signed_quotient codes x y hx.number hy.number) hx hy s h k next
-  sum_runs bin.Div U16 second x y r l pc end after env first values frame ok le hx hy s h k next =
-      divided_runs codes f rest labelled n p types spots base (is_zero y) 25 U16 x y (wrapped U16 (int_div x y)) r l pc end after env first values frame le refl (wrapped_again U16 (int_div x y)) refl
-      (unsigned_quotient codes x y hx.number hy.number) hx hy s h k next
-  sum_runs bin.Div I8 second x y r l pc end after env first values frame ok le hx hy s h k next = absurd ok
-  sum_runs bin.Div U8 second x y r l pc end after env first values frame ok le hx hy s h k next = absurd ok
-  sum_runs bin.Div I32 second x y r l pc end after env first values frame ok le hx hy s h k next = absurd ok
-  sum_runs bin.Div U32 second x y r l pc end after env first values frame ok le hx hy s h k next = absurd ok
-  sum_runs bin.Rem I16 second x y r l pc end after env first values frame ok le hx hy s h k next =
-      divided_runs codes f rest labelled n p types spots base (is_zero y) 18 I16 x y (wrapped I16 (int_rem x y)) r l pc end after env first values frame le refl (wrapped_again I16 (int_rem x y)) refl
-      (signed_rest codes x y hx.number hy.number) hx hy s h k next
-  sum_runs bin.Rem U16 second x y r l pc end after env first values frame ok le hx hy s h k next =
-      divided_runs codes f rest labelled n p types spots base (is_zero y) 26 U16 x y (wrapped U16 (int_rem x y)) r l pc end after env first values frame le refl (wrapped_again U16 (int_rem x y)) refl
-      (unsigned_rest codes x y hx.number hy.number) hx hy s h k next
-  sum_runs bin.Rem I8 second x y r l pc end after env first values frame ok le hx hy s h k next = absurd ok
-  sum_runs bin.Rem U8 second x y r l pc end after env first values frame ok le hx hy s h k next = absurd ok
-  sum_runs bin.Rem I32 second x y r l pc end after env first values frame ok le hx hy s h k next = absurd ok
-  sum_runs bin.Rem U32 second x y r l pc end after env first values frame ok le hx hy s h k next = absurd ok
+  sum_runs bin.Mul t second x y r l pc end after env first values frame ok le hx hy s h k next =
+      product_runs codes f rest labelled n p types spots base t x y r pc end after env first values frame le ok hx hy s h k next
+  sum_runs bin.Div t second x y r l pc end after env first values frame ok le hx hy s h k next =
+      quotient_runs codes f rest labelled n p types spots base t x y r l pc end after env first values frame le ok hx hy s h k next
+  sum_runs bin.Rem t second x y r l pc end after env first values frame ok le hx hy s h k next =
+      rest_runs codes f rest labelled n p types spots base t x y r l pc end after env first values frame le ok hx hy s h k next
+  sum_runs bin.Shl t second x y r l pc end after env first values frame ok le hx hy s h k next =
+      left_runs codes f rest labelled n p types spots base t second x y r l pc end after env first values frame le ok hy.0 hx hy.1 s h k next
+  sum_runs bin.Shr t second x y r l pc end after env first values frame ok le hx hy s h k next =
+      right_runs codes f rest labelled n p types spots base t second x y r l pc end after env first values frame le ok hy.0 hx hy.1 s h k next
   sum_runs bin.And I16 second x y r l pc end after env first values frame ok le hx hy s h k next =
       narrow_runs codes f rest labelled n p types spots base And I16 x y (wrapped I16 (pos (bit_and (low x) (low y)))) r pc end after env first values frame le refl (wrapped_again I16 (pos (bit_and (low x) (low y))))
       (low_of_word I16 tt (bit_and (low x) (low y)) (and_word x y)) hx hy s h k next
@@ -216,24 +203,6 @@ module _ (codes : MidCode) (f : ℕ) (rest : List Activation) (labelled : IsLabe
   sum_runs bin.Xor U32 second x y r l pc end after env first values frame ok le hx hy s h k next =
       let is = xor_halves U32 tt x y in
       wide_bits_runs codes f rest labelled n p types spots base Xor U32 x y (wrapped U32 (pos (bit_xor (residue 32 x) (residue 32 y)))) r pc end after env first values frame le tt (wrapped_again U32 (pos (bit_xor (residue 32 x) (residue 32 y)))) is.0 is.1 hx hy s h k next
-  sum_runs bin.Shl t second x y r l pc end after env first values frame ok le hx hy s h k next = absurd ok
-  sum_runs bin.Shr t second x y r l pc end after env first values frame ok le hx hy s h k next = absurd ok
-
-  second_of : (op : BinOp) (t : IntType) (b : Expr) → CoversBin op t → IsSecond op t (Has p types b) → Has p types b (int t)
-  second_of bin.Add t b ok h = h
-  second_of bin.Sub t b ok h = h
-  second_of bin.Mul t b ok h = h
-  second_of bin.Div t b ok h = h
-  second_of bin.Rem t b ok h = h
-  second_of bin.And t b ok h = h
-  second_of bin.Or t b ok h = h
-  second_of bin.Xor t b ok h = h
-  second_of bin.Shl t b ok h = absurd ok
-  second_of bin.Shr t b ok h = absurd ok
-  second_of bin.Eq t b ok h = h
-  second_of bin.Ne t b ok h = h
-  second_of bin.Lt t b ok h = h
-  second_of bin.Le t b ok h = h
 
   callable_is : (o : Option Body) (Arguments : List Ty → Type 0) (ty : Ty) → IsCallable o Arguments ty → number_of (result_of o) ≡ number_of ty
   callable_is None A ty h = absurd h
@@ -275,6 +244,28 @@ module _ (codes : MidCode) (f : ℕ) (rest : List Activation) (labelled : IsLabe
   held_is (plain.port_out port e) ty h = ap number_of (sym h.0)
   held_is (plain.comma a b) ty h = held_is b ty h.1
 
+  abbrev Second : BinOp → IntType → Expr → Type 0
+  Second op t b = (s : IntType) × Has p types b (int s) × ((y : ℤ) (values : ℕ → ℕ) (at : ℕ) → IsHeld s y values at → SecondHeld op t (held p types b) y values at)
+
+  count_of_shift : (b : Expr) (s : IntType) → IsPromoted s → Has p types b (int s) → (y : ℤ) (values : ℕ → ℕ) (at : ℕ) → IsHeld s y values at → IsPromoted (held p types b) × IsHeld (held p types b) y values at
+  count_of_shift b s ok h y values at k = let same = sym (held_is b (int s) h) in (subst IsPromoted same ok, subst (λ u. IsHeld u y values at) same k)
+
+  second_of : (op : BinOp) (t : IntType) (b : Expr) → IsSecond op t (Has p types b) → Second op t b
+  second_of bin.Add t b h = (t, h, λ y values at k. k)
+  second_of bin.Sub t b h = (t, h, λ y values at k. k)
+  second_of bin.Mul t b h = (t, h, λ y values at k. k)
+  second_of bin.Div t b h = (t, h, λ y values at k. k)
+  second_of bin.Rem t b h = (t, h, λ y values at k. k)
+  second_of bin.And t b h = (t, h, λ y values at k. k)
+  second_of bin.Or t b h = (t, h, λ y values at k. k)
+  second_of bin.Xor t b h = (t, h, λ y values at k. k)
+  second_of bin.Shl t b h = (h.0, h.2, count_of_shift b h.0 h.1 h.2)
+  second_of bin.Shr t b h = (h.0, h.2, count_of_shift b h.0 h.1 h.2)
+  second_of bin.Eq t b h = (t, h, λ y values at k. k)
+  second_of bin.Ne t b h = (t, h, λ y values at k. k)
+  second_of bin.Lt t b h = (t, h, λ y values at k. k)
+  second_of bin.Le t b h = (t, h, λ y values at k. k)
+
   width_is : (e : Expr) (ty : Ty) → Has p types e ty → is_wide (number_of ty) ≡ is_wide (held p types e)
   width_is e ty h = ap is_wide (sym (held_is e ty h))
 
@@ -303,7 +294,7 @@ module _ (codes : MidCode) (f : ℕ) (rest : List Activation) (labelled : IsLabe
   converted_scalar t (struct k) h = absurd h
 
   negated_runs : (t : IntType) (v : ℤ) (r l pc end : ℕ) (after : ℤ → Locals → Behaviour) (env : Locals) (first values frame : ℕ → ℕ) →
-      CoversUn un.Neg t → base ≤ r → IsHeld t v values r → Stands code pc (unary_code un.Neg (is_wide t) r l) end →
+      IsPromoted t → base ≤ r → IsHeld t v values r → Stands code pc (unary_code un.Neg (is_wide t) r l) end →
       Holds p types spots base env values frame → Keeps base r first values → Behind (int t) r end first after →
       Runs codes n (after (unary un.Neg t v) env) (here pc values frame)
   negated_runs I16 v r l pc end after env first values frame ok le held s h k next =
@@ -340,7 +331,7 @@ module _ (codes : MidCode) (f : ℕ) (rest : List Activation) (labelled : IsLabe
       wide_negated_runs codes f rest labelled n p types spots base U32 v r l pc end after env first values frame le tt held s h k next
 
   turned_runs : (t : IntType) (v : ℤ) (r l pc end : ℕ) (after : ℤ → Locals → Behaviour) (env : Locals) (first values frame : ℕ → ℕ) →
-      CoversUn un.Not t → base ≤ r → IsHeld t v values r → Stands code pc (unary_code un.Not (is_wide t) r l) end →
+      IsPromoted t → base ≤ r → IsHeld t v values r → Stands code pc (unary_code un.Not (is_wide t) r l) end →
       Holds p types spots base env values frame → Keeps base r first values → Behind (int t) r end first after →
       Runs codes n (after (unary un.Not t v) env) (here pc values frame)
   turned_runs I16 v r l pc end after env first values frame ok le held s h k next =
@@ -490,12 +481,13 @@ module _ (codes : MidCode) (f : ℕ) (rest : List Activation) (labelled : IsLabe
   expr_runs (plain.bin op t a b) ty r l pc end after env values frame le typed covered s h next =
       let s1 = split code pc end (expr_code p types checks spots a r (l + 3)) _ s in
       let s2 = split code s1.0 end (expr_code p types checks spots b (r + 2) (l + 3 + labels a)) (binary_code op t (held p types b) r l) s1.2 in
-      expr_runs a (int t) r (l + 3) pc s1.0 (λ x. value p types calls b (λ y. or_fault 3 (binary op t x y) after)) env values frame le typed.2 covered.1 s1.1 h
-      (λ x env1 values1 frame1 h1. expr_runs b (int t) (r + 2) (l + 3 + labels a) s1.0 s2.0 (λ y. or_fault 3 (binary op t x y) after) env1 values1 frame1 (omega arith)
-      (second_of op t b covered.0 typed.3) covered.2 s2.1 h1.holds
+      let second = second_of op t b typed.3 in
+      expr_runs a (int t) r (l + 3) pc s1.0 (λ x. value p types calls b (λ y. or_fault 3 (binary op t x y) after)) env values frame le typed.2 covered.0 s1.1 h
+      (λ x env1 values1 frame1 h1. expr_runs b (int second.0) (r + 2) (l + 3 + labels a) s1.0 s2.0 (λ y. or_fault 3 (binary op t x y) after) env1 values1 frame1 (omega arith)
+      second.1 covered.1 s2.1 h1.holds
       (λ y env2 values2 frame2 h2.
-      sum_runs op t (held p types b) x y r l s2.0 end after env2 values values2 frame2 covered.0 le
-      (still base t x r (r + 2) values1 values2 le (omega arith) h2.keeps h1.is) h2.is s2.2 h2.holds
+      sum_runs op t (held p types b) x y r l s2.0 end after env2 values values2 frame2 typed.1 le
+      (still base t x r (r + 2) values1 values2 le (omega arith) h2.keeps h1.is) (second.2 y values2 (r + 2) h2.is) s2.2 h2.holds
       (keeps_on base r (r + 2) values values1 values2 (omega arith) h1.keeps h2.keeps)
       (subst (λ u. Behind u r end values after) typed.0 next)))
   expr_runs (plain.port_in port) ty r l pc end after env values frame le typed covered s h next =
@@ -526,18 +518,18 @@ module _ (codes : MidCode) (f : ℕ) (rest : List Activation) (labelled : IsLabe
       })))
   expr_runs (plain.un un.IsZero t e) ty r l pc end after env values frame le typed covered s h next =
       let s1 = split code pc end (expr_code p types checks spots e r (l + 2)) _ s in
-      expr_runs e (int t) r (l + 2) pc s1.0 (λ x. after (truth (is_zero x))) env values frame le typed.2 covered.1 s1.1 h
+      expr_runs e (int t) r (l + 2) pc s1.0 (λ x. after (truth (is_zero x))) env values frame le typed.2 covered s1.1 h
       (λ x env1 values1 frame1 h1. zero_truth_runs codes f rest labelled n p types spots base (is_wide t) t x r l s1.0 end after env1 values values1 frame1 le refl h1.is s1.2 h1.holds h1.keeps
       (subst (λ u. Behind u r end values after) typed.0 next))
   expr_runs (plain.un un.Neg t e) ty r l pc end after env values frame le typed covered s h next =
       let s1 = split code pc end (expr_code p types checks spots e r (l + 2)) _ s in
-      expr_runs e (int t) r (l + 2) pc s1.0 (λ x. after (unary un.Neg t x)) env values frame le typed.2 covered.1 s1.1 h
-      (λ x env1 values1 frame1 h1. negated_runs t x r l s1.0 end after env1 values values1 frame1 covered.0 le h1.is s1.2 h1.holds h1.keeps
+      expr_runs e (int t) r (l + 2) pc s1.0 (λ x. after (unary un.Neg t x)) env values frame le typed.2 covered s1.1 h
+      (λ x env1 values1 frame1 h1. negated_runs t x r l s1.0 end after env1 values values1 frame1 typed.1 le h1.is s1.2 h1.holds h1.keeps
       (subst (λ u. Behind u r end values after) typed.0 next))
   expr_runs (plain.un un.Not t e) ty r l pc end after env values frame le typed covered s h next =
       let s1 = split code pc end (expr_code p types checks spots e r (l + 2)) _ s in
-      expr_runs e (int t) r (l + 2) pc s1.0 (λ x. after (unary un.Not t x)) env values frame le typed.2 covered.1 s1.1 h
-      (λ x env1 values1 frame1 h1. turned_runs t x r l s1.0 end after env1 values values1 frame1 covered.0 le h1.is s1.2 h1.holds h1.keeps
+      expr_runs e (int t) r (l + 2) pc s1.0 (λ x. after (unary un.Not t x)) env values frame le typed.2 covered s1.1 h
+      (λ x env1 values1 frame1 h1. turned_runs t x r l s1.0 end after env1 values values1 frame1 typed.1 le h1.is s1.2 h1.holds h1.keeps
       (subst (λ u. Behind u r end values after) typed.0 next))
   expr_runs (plain.post k) ty r l pc end after env values frame le typed covered s h next =
       wants codes n (action.Post k) (λ x. after (wrapped U8 (pos x)) env) _ (λ x. here (pc + 1) (put values r x) frame) (does codes f rest pc values frame (Post k r) s.0)

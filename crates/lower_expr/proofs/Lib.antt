@@ -5,8 +5,10 @@ pub mod Values
 pub mod Pieces
 pub mod Wide
 pub mod Kept
-pub mod Helped
 pub mod Order
 pub mod SignedBytes
 pub mod Products
+pub mod Operations
+pub mod Helped
+pub mod Sizes
 pub mod Exprs

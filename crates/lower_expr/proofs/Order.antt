@@ -50,7 +50,7 @@ by_low : (lower : Bool) (a b : ℕ) → a / 65536 ≡ b / 65536 → nat_lt (a % 
 by_low true a b q e = let t = ltb-true _ _ e in lt-ltb a b (omega (arith, q, t))
 by_low false a b q e = let t = at_least _ _ e in not_below a b (omega (arith, q, t))
 
-less_by_halves : (higher same : Bool) (a b : ℕ) → nat_lt (a / 65536) (b / 65536) ≡ higher → (a / 65536 == b / 65536) ≡ same →
+pub less_by_halves : (higher same : Bool) (a b : ℕ) → nat_lt (a / 65536) (b / 65536) ≡ higher → (a / 65536 == b / 65536) ≡ same →
     nat_lt a b ≡ by_halves higher same (nat_lt (a % 65536) (b % 65536))
 less_by_halves true same a b h e = let t = ltb-true _ _ h in lt-ltb a b (omega (arith, t))
 less_by_halves false true a b h e = by_low _ a b ((Decides-eqb (a / 65536) (b / 65536)).0 e) refl

@@ -2,15 +2,10 @@
 use Rattle.std.specs.Prelude.{⊤, List, Option, Some, None, slice_get}
 use Rattle.nm_base.specs.declared.int_type.IntType.{IntType}
 use Rattle.nm_base.specs.declared.int_type.IntType.TheVariants.{U8, I16, U16}
-use Rattle.nesc_core.specs.declared.tree.BinOp.{BinOp}
-use Rattle.nesc_core.specs.declared.tree.BinOp.TheVariants.{Add, Sub, Mul, Div, Rem, And, Or, Xor, Eq, Ne, Lt, Le}
-use Rattle.nesc_core.specs.declared.tree.UnOp.{UnOp}
-use Rattle.nesc_core.specs.declared.tree.UnOp.TheVariants.{IsZero, Neg, Not}
 use Rattle.lower_expr.specs.declared.spot.Spot.{Spot}
 use Rattle.lower_expr.specs.declared.spot.Spot.TheVariants.{Values, Frame}
 use Rattle.nesc_core.specs.Plain.{Ty, void, int, pointer, array, struct, Expr, Place, Program}
 use Rattle.nesc_core.specs.Plain as plain
-use Rattle.nesc_core.specs.Typing.{IsPromoted}
 use Rattle.nesc_core.specs.PlaceTypes.{place_type}
 
 -- held in one value that a word or an unsigned byte fills
@@ -21,37 +16,11 @@ IsWordSized (int U16) = ⊤
 IsWordSized (pointer t) = ⊤
 IsWordSized _ = ⊥
 
-abbrev pub IsWord : IntType → Type 0
-IsWord I16 = ⊤
-IsWord U16 = ⊤
-IsWord _ = ⊥
-
--- sums, differences, operations on bits and comparisons of all widths; products and quotients of words
-abbrev pub CoversBin : BinOp → IntType → Type 0
-CoversBin Add t = IsPromoted t
-CoversBin Sub t = IsPromoted t
-CoversBin And t = IsPromoted t
-CoversBin Or t = IsPromoted t
-CoversBin Xor t = IsPromoted t
-CoversBin Eq t = IsPromoted t
-CoversBin Ne t = IsPromoted t
-CoversBin Lt t = IsPromoted t
-CoversBin Le t = IsPromoted t
-CoversBin Mul t = IsWord t
-CoversBin Div t = IsWord t
-CoversBin Rem t = IsWord t
-CoversBin _ t = ⊥
-
 -- not negative, in one value
 abbrev pub IsShortUnsigned : IntType → Type 0
 IsShortUnsigned U8 = ⊤
 IsShortUnsigned U16 = ⊤
 IsShortUnsigned _ = ⊥
-
-abbrev pub CoversUn : UnOp → IntType → Type 0
-CoversUn IsZero t = ⊤
-CoversUn Neg t = IsPromoted t
-CoversUn Not t = IsPromoted t
 
 abbrev pub IsInValues : Option Spot → Type 0
 IsInValues None = ⊥
@@ -80,8 +49,8 @@ module _ (p : Program) (types : List Ty) (spots : List Spot) where
   IsCovered (plain.const t x) = ⊤
   IsCovered plain.null = ⊤
   IsCovered (plain.read place at) = IsRead place
-  IsCovered (plain.un op t e) = CoversUn op t × IsCovered e
-  IsCovered (plain.bin op t a b) = CoversBin op t × IsCovered a × IsCovered b
+  IsCovered (plain.un op t e) = IsCovered e
+  IsCovered (plain.bin op t a b) = IsCovered a × IsCovered b
   IsCovered (plain.convert t e) = IsCovered e
   IsCovered (plain.both a b) = IsCovered a × IsCovered b
   IsCovered (plain.either a b) = IsCovered a × IsCovered b

@@ -1,6 +1,6 @@
 -- How values of the source are held in the values of a function: a number by the low 16 bits of its two's complement, and one of
 -- 32 bits by its high 16 bits too; a pointer by its address (own).
-use Rattle.std.specs.Prelude.{◌≡◌, ℕ, ℤ, ◌+◌, ◌/◌, Bool, true, false, List, Option, Some, None, slice_get}
+use Rattle.std.specs.Prelude.{◌≡◌, ℕ, ℤ, ◌+◌, ◌/◌, Bool, true, false, List, [], ◌∷◌, Option, Some, None, slice_get}
 use Rattle.nm_base.specs.declared.int_type.IntType.{IntType}
 use Rattle.nm_base.specs.declared.int_type.IntType.TheVariants.{I8, U8, I16, U16, I32, U32}
 use Rattle.nm_base.specs.IntType.{wrapped}
@@ -57,6 +57,11 @@ high v = residue 32 v / 65536
 abbrev pub IsHighHeld : (wide : Bool) → ℤ → (ℕ → ℕ) → ℕ → Type 0
 IsHighHeld true v values r = values r ≡ high v
 IsHighHeld false v values r = Unit {0}
+
+-- the values that are passed and given back for a number
+abbrev pub halves_of : (wide : Bool) → ℤ → List ℕ
+halves_of true v = low v ∷ high v ∷ []
+halves_of false v = low v ∷ []
 
 -- a number of the type stands at r
 pub record IsHeld (t : IntType) (v : ℤ) (values : ℕ → ℕ) (r : ℕ) : Type 0 where

@@ -1,9 +1,10 @@
 -- How the locals of a body are held in a call of its function (own).
-use Rattle.std.specs.Prelude.{⊤, ◌≡◌, ℕ, ℤ, pos, ◌+◌, ◌*◌, ◌<◌, ◌≤◌, Bool, true, false, List, [], length, Option, Some, None, slice_get, slice_index, slice_index_or}
+use Rattle.std.specs.Prelude.{⊤, ◌≡◌, ◌≢◌, ◌⊎◌, ℕ, ℤ, pos, ◌+◌, ◌*◌, ◌<◌, ◌≤◌, Bool, true, false, List, [], length, Option, Some, None, slice_get, slice_index, slice_index_or}
 use Rattle.nm_base.specs.declared.int_type.IntType.{IntType}
 use Rattle.nm_base.specs.declared.int_type.IntType.TheVariants.{I8, U8, I16, U16, I32, U32}
 use Rattle.nm_base.specs.IntType.{wrapped}
 use Rattle.nesc_core.specs.Plain.{Ty, void, int, pointer, array, struct, Program}
+use Rattle.nesc_core.specs.Typing.{IsScalar}
 use Rattle.mid_code.specs.Help.{is_wide}
 use Rattle.core_meaning.specs.Layout.{size_of}
 use Rattle.core_meaning.specs.Work.{Locals, number_of}
@@ -73,3 +74,11 @@ IsResult (int t) v values r = IsHeld t v values r
 IsResult (pointer t) v values r = IsHeld U16 v values r
 IsResult (array t n) v values r = ⊤
 IsResult (struct k) v values r = ⊤
+
+-- locals of these types that are in a frame of this size lie inside of it, and apart; only numbers and pointers are in values
+pub record LieApart (p : Program) (types : List Ty) (spots : List Spot) (frame : ℕ) : Type 0 where
+  pub small : frame ≤ 65535
+  pub inside : (x from : ℕ) → x < length types → slice_get spots x ≡ Some (Frame from) → from + size_of p (slice_index_or types x void) ≤ frame
+  pub apart : (x y from other : ℕ) → x < length types → y < length types → x ≢ y → slice_get spots x ≡ Some (Frame from) → slice_get spots y ≡ Some (Frame other) →
+      (from + size_of p (slice_index_or types x void) ≤ other) ⊎ (other + size_of p (slice_index_or types y void) ≤ from)
+  pub in_values : (x : ℕ) (regs : Regs) → x < length types → slice_get spots x ≡ Some (Values regs) → IsScalar (slice_index_or types x void)

@@ -146,12 +146,12 @@ index_bound U8 count = min count 65536
 index_bound I16 count = min count 32768
 index_bound U16 count = min count 65536
 index_bound I32 count = min count 2147483648
-index_bound U32 count = min count 4294967295
+index_bound U32 count = min count 4294967296
 
 -- an index at r + 2 that is negative or not below the count is fault 1
 abbrev pub bound_code : (wide : Bool) → (bound r l : ℕ) → List Mid
 bound_code true bound r l =
-    Set (r + 4) (bound / 65536) ∷ Branch LtU (r + 3) (r + 4) l ∷ Branch Ne (r + 3) (r + 4) (l + 1)
+    if bound == 4294967296 then [] else Set (r + 4) (bound / 65536) ∷ Branch LtU (r + 3) (r + 4) l ∷ Branch Ne (r + 3) (r + 4) (l + 1)
     ∷ Set (r + 4) (bound % 65536) ∷ Branch LtU (r + 2) (r + 4) l ∷ Label (l + 1) ∷ Fault 1 ∷ Label l ∷ []
 bound_code false bound r l =
     if bound == 65536 then [] else Set (r + 4) bound ∷ Branch LtU (r + 2) (r + 4) l ∷ Fault 1 ∷ Label l ∷ []
