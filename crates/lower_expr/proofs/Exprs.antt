@@ -1,57 +1,141 @@
 -- The code of an expression does what the expression does.
-use Rattle.std.proofs.Common.{◌≡◌, ℕ, ◌+◌, ◌/◌, ◌%◌, ◌≤◌, Bool, true, false, List, [], ◌∷◌, ◌++◌, Option, Some, None, refl, sym, ap, ◌∙◌, subst, arith}
-use Rattle.std.specs.Prelude.{ℤ, pos, slice_get, bit_and, bit_or, bit_xor, not, nat_lt, nat_le, int_lt, ◌==◌, if◌then◌else◌, ◌+ℤ◌, ◌-ℤ◌}
-use Rattle.std.specs.Ordering.{int_eq}
+use Rattle.std.proofs.Common.{◌≡◌, ℕ, ◌+◌, ◌≤◌, ◌<◌, Bool, true, false, List, [], ◌∷◌, ◌++◌, All, length, map, take, Option, Some, None, refl, sym, ap, ◌∙◌, subst, arith}
+use Rattle.std.specs.Prelude.{ℤ, pos, unsigned_abs, int_div, slice_get, not, if◌then◌else◌, ◌+ℤ◌, ◌-ℤ◌, ◌*ℤ◌}
 use Rattle.nm_base.specs.declared.int_type.IntType.{IntType}
-use Rattle.nm_base.specs.declared.int_type.IntType.TheVariants.{I8, U8, I16, U16, I32, U32}
+use Rattle.nm_base.specs.declared.int_type.IntType.TheVariants.{U8, I16, U16}
 use Rattle.nm_base.specs.IntType.{wrapped}
 use Rattle.nm_base.specs.declared.action.Action.TheVariants as action
 use Rattle.nm_base.specs.Behaviour.{Behaviour, Does}
 use Rattle.nesc_core.specs.declared.tree.BinOp.{BinOp}
 use Rattle.nesc_core.specs.declared.tree.BinOp.TheVariants as bin
 use Rattle.nesc_core.specs.declared.tree.UnOp.TheVariants as un
-use Rattle.nesc_core.specs.Plain.{Ty, void, int, pointer, array, struct, Expr, Place, Body, Program}
+use Rattle.nesc_core.specs.Plain.{Ty, void, int, pointer, array, struct, Expr, Exprs, no_exprs, more_exprs, Place, Body, Program}
 use Rattle.nesc_core.specs.Plain as plain
-use Rattle.nesc_core.specs.PlaceTypes.{place_type}
-use Rattle.nesc_core.specs.Typing.{Has, IsConverted, IsScalar, IsPointer, IsStepped, IsCallable, IsPromoted, IsSecond, binary_type}
+use Rattle.nesc_core.specs.PlaceTypes.{place_type, element_of, count_of, field_offset}
+use Rattle.nesc_core.specs.Parts.{is_part}
+use Rattle.nesc_core.specs.Derefs.{expr_derefs, exprs_derefs, place_derefs}
+use Rattle.nesc_core.specs.Calls.{expr_calls, exprs_calls, place_calls}
+use Rattle.nesc_core.specs.Weights.{objects_start}
+use Rattle.nesc_core.specs.Typing.{Has, IsConverted, IsScalar, IsPointer, IsStepped, IsCallable, IsPlace, IsPromoted, IsSecond, IsUpdated, Moves, Updates, AllHave, binary_type}
 use Rattle.core_meaning.specs.Numbers.{residue, binary, unary, is_zero, truth}
-use Rattle.core_meaning.specs.Layout.{object_address}
-use Rattle.core_meaning.specs.Work.{Locals, Work, give, load, store, or_fault, number_of}
-use Rattle.core_meaning.specs.declared.access.Where.TheVariants.{At, Within}
-use Rattle.core_meaning.specs.Act.{Calls, value}
-use Rattle.mid_code.specs.declared.instr.Op.TheVariants.{Add, Sub, And, Or, Xor}
+use Rattle.core_meaning.specs.Layout.{object_address, size_of}
+use Rattle.core_meaning.specs.Work.{Locals, Work, address_of, fault, give, load, moved, store, or_fault, number_of}
+use Rattle.core_meaning.specs.declared.access.Where.{Where}
+use Rattle.core_meaning.specs.declared.access.Where.TheVariants.{At}
+use Rattle.core_meaning.specs.Act.{Calls, element, find, value, values as values_of}
+use Rattle.mid_code.specs.declared.instr.Op.TheVariants.{Add}
 use Rattle.mid_code.specs.declared.instr.Mid.{Mid}
-use Rattle.mid_code.specs.declared.instr.Mid.TheVariants.{Set, Move, Load, Store, Bin, In, Out, Post, Label, Jump}
+use Rattle.mid_code.specs.declared.instr.Mid.TheVariants.{Set, Bin, In, Out, Post, Label, Jump, Call, Help, Tick}
 use Rattle.mid_code.specs.declared.instr.Test.TheVariants as test
 use Rattle.mid_code.specs.declared.code.MidCode.{MidCode}
-use Rattle.mid_code.specs.Words.{operate}
 use Rattle.mid_code.specs.Machine.{Activation, fn_of, put}
 use Rattle.mid_code.specs.Runs.{IsLabelled, Runs, Stands}
-use Rattle.mid_code.specs.Help.{is_wide}
-use Rattle.mid_code.proofs.Runs.{goes, wants, acts_on}
+use Rattle.mid_code.specs.Help.{first_check, is_wide}
+use Rattle.mid_code.proofs.Runs.{wants, acts_on}
 use Rattle.mid_code.proofs.Stands.{does, at_end, jump_runs, split}
-use Rattle.mid_code.proofs.Written.{put_same, put_other}
+use Rattle.mid_code.proofs.Written.{put_same}
 use Rattle.lower_expr.specs.declared.spot.Spot.{Spot}
-use Rattle.lower_expr.specs.Held.{held, is_signed, result_of, IsHeld, IsHighHeld, low, high}
-use Rattle.lower_expr.specs.Runs.{After, Keeps}
+use Rattle.lower_expr.specs.Held.{held, halves_of, result_of, IsHeld, IsHighHeld, low}
+use Rattle.lower_expr.specs.Runs.{After, AreOf, CallsRun, Fits, IsReady, Keeps, passed}
 use Rattle.lower_expr.specs.Locals.{Holds, IsResult}
-use Rattle.lower_expr.specs.Covered.{IsCovered, IsNumberSized, IsShortUnsigned}
-use Rattle.lower_expr.specs.Code.{labels, local_code, load_code, store_code, expr_code}
-use Rattle.lower_expr.specs.Pieces.{binary_code, convert_code, fit_code, high_code, truth_code, unary_code, zero_code, move_code}
+use Rattle.lower_expr.specs.Code.{Kind, labels, place_labels, fetch_code, put_code, address_code, expr_code, place_code, args_code, passed_at, kind_of, check_of, taken_at}
+use Rattle.lower_expr.specs.Pieces.{binary_code, convert_code, distance_code, element_code, offset_code, truth_code, zero_code, move_code, values_at}
 use Rattle.lower_expr.proofs.Values.{keeps_refl, keeps_put, keeps_on, holds_put, still}
-use Rattle.lower_expr.proofs.Numbers.{Is32Bits, byte_of_low, negated, low_wrapped_wide, no_high_of, rest_wrapped, high_sum, wide_low_sum, high_difference, wide_low_difference, and_word, or_word, xor_word, low_of_word, byte_low, equal_low, less_low, le_is, low_byte, number_of_low, low_sum, low_difference, low_wrapped, low_word, word_number, wrapped_again}
-use Rattle.lower_expr.proofs.Halves.{and_halves, equal_halves, not_low, or_halves, wide_not_high, wide_not_low, xor_halves}
-use Rattle.lower_expr.proofs.Helped.{left_runs, product_runs, quotient_runs, rest_runs, right_runs}
-use Rattle.lower_expr.proofs.Kept.{local_kept_runs, nothing_first}
-use Rattle.lower_expr.proofs.Order.{wide_at_most, wide_less, wide_order_runs, wide_signed_at_most, wide_signed_less}
-use Rattle.lower_expr.proofs.SignedBytes.{byte_again, low_of_byte, signed_byte_runs}
-use Rattle.lower_expr.proofs.Wide.{apart_tested, high_of, non_zero_test_runs, not_runs, sign_runs, tested, wide_at, wide_bits_runs, wide_equal_runs, wide_negated_runs, zero_test_runs, zero_truth_runs}
-use Rattle.lower_expr.proofs.Pieces.{Next, as_number, at_here, byte_runs, label_runs, local_runs, first_runs, last_runs, test_runs, const_runs, load_runs, narrow_at, narrow_runs, wide_load_runs, wide_store_runs, wide_sum_runs, set_runs, store_runs}
+use Rattle.lower_expr.proofs.Numbers.{low_byte, low_word, word_number}
+use Rattle.lower_expr.proofs.Wide.{apart_tested, non_zero_test_runs, tested, zero_test_runs, zero_truth_runs}
+use Rattle.lower_expr.proofs.Pieces.{Next, at_here, byte_runs, label_runs, first_runs, last_runs, const_runs, narrow_at, set_runs}
+use Rattle.std.proofs.lemmas.List.{map-append}
+use Rattle.std.proofs.lemmas.List.Elements.{All-cons, All-head, All-nil, All-tail}
+use Rattle.lower_expr.proofs.Found.{as_number, as_result, found_still}
+use Rattle.lower_expr.proofs.Loads.{fetched_runs}
+use Rattle.lower_expr.proofs.Stores.{moved_runs, written_runs}
+use Rattle.lower_expr.proofs.Helped.{held_halves}
+use Rattle.lower_expr.proofs.Operators.{SecondHeld, binary_runs, converted_runs, negated_runs, turned_runs}
+use Rattle.lower_expr.proofs.Places.{NextPlace, address_runs, checked_runs, element_runs, field_runs, local_runs, object_runs, object_word}
+use Rattle.lower_expr.proofs.Pointers.{distance_runs, offset_runs, step_small, stepped_held, stepped_result}
+use Rattle.lower_expr.proofs.Called.{body_formed, call_runs}
 
-module _ (codes : MidCode) (f : ℕ) (rest : List Activation) (labelled : IsLabelled (fn_of codes f).code) (n : ℕ)
-    (p : Program) (types checks : List Ty) (spots : List Spot) (base : ℕ) (calls : Calls) where
+-- what holds of all of two lists
+both_of : {A : Type 0} (P : A → Type 0) (xs ys : List A) → All P (xs ++ ys) → All P xs × All P ys
+both_of P [] ys h = (All-nil P, h)
+both_of P (x ∷ xs) ys h = let r = both_of P xs ys (All-tail P x (xs ++ ys) h) in (All-cons P x xs (All-head P x (xs ++ ys) h) r.0, r.1)
+
+-- a number at a place that is as it was
+held_there : (t : IntType) (v : ℤ) (old new : ℕ → ℕ) (r : ℕ) → new r ≡ old r → new (r + 1) ≡ old (r + 1) → IsHeld t v old r → IsHeld t v new r
+held_there t v old new r e1 e2 h = record { number = h.number; low_half = e1 ∙ h.low_half; high_half = high_there (is_wide t) h.high_half }
+  where
+    high_there : (wide : Bool) → IsHighHeld wide v old (r + 1) → IsHighHeld wide v new (r + 1)
+    high_there true k = e2 ∙ k
+    high_there false k = tt
+
+-- ---- what is updated
+
+updated_scalar : (op : BinOp) (t : IntType) (ty : Ty) → IsUpdated op t ty → IsScalar ty
+updated_scalar op t void h = absurd h
+updated_scalar op t (int s) h = tt
+updated_scalar op t (pointer s) h = tt
+updated_scalar op t (array s m) h = absurd h
+updated_scalar op t (struct k) h = absurd h
+
+updated_promoted : (op : BinOp) (t : IntType) (ty : Ty) → IsUpdated op t ty → IsPromoted t
+updated_promoted op t void h = absurd h
+updated_promoted op t (int s) h = h.1
+updated_promoted op t (pointer s) h = subst IsPromoted (sym h.1) tt
+updated_promoted op t (array s m) h = absurd h
+updated_promoted op t (struct k) h = absurd h
+
+moves_updates : (op : BinOp) → Moves op → Updates op
+moves_updates bin.Add h = tt
+moves_updates bin.Sub h = tt
+moves_updates bin.Mul h = absurd h
+moves_updates bin.Div h = absurd h
+moves_updates bin.Rem h = absurd h
+moves_updates bin.And h = absurd h
+moves_updates bin.Or h = absurd h
+moves_updates bin.Xor h = absurd h
+moves_updates bin.Shl h = absurd h
+moves_updates bin.Shr h = absurd h
+moves_updates bin.Eq h = absurd h
+moves_updates bin.Ne h = absurd h
+moves_updates bin.Lt h = absurd h
+moves_updates bin.Le h = absurd h
+
+updates_of : (op : BinOp) (t : IntType) (ty : Ty) → IsUpdated op t ty → Updates op
+updates_of op t void h = absurd h
+updates_of op t (int s) h = h.0
+updates_of op t (pointer s) h = moves_updates op h.0
+updates_of op t (array s m) h = absurd h
+updates_of op t (struct k) h = absurd h
+
+updated_type : (op : BinOp) (t : IntType) → Updates op → binary_type op t ≡ t
+updated_type bin.Add t h = refl
+updated_type bin.Sub t h = refl
+updated_type bin.Mul t h = refl
+updated_type bin.Div t h = refl
+updated_type bin.Rem t h = refl
+updated_type bin.And t h = refl
+updated_type bin.Or t h = refl
+updated_type bin.Xor t h = refl
+updated_type bin.Shl t h = refl
+updated_type bin.Shr t h = refl
+updated_type bin.Eq t h = absurd h
+updated_type bin.Ne t h = absurd h
+updated_type bin.Lt t h = absurd h
+updated_type bin.Le t h = absurd h
+
+-- ---- what is called
+
+callable_body : (o : Option Body) (Arguments : List Ty → Type 0) (ty : Ty) → IsCallable o Arguments ty → (b : Body) × (o ≡ Some b) × (ty ≡ b.result) × Arguments (take b.params b.locals)
+callable_body None A ty h = absurd h
+callable_body (Some b) A ty h = (b, refl, h.0, h.1)
+
+module _ (codes : MidCode) (f : ℕ) (rest : List Activation) (n : ℕ) (p : Program) (types checks : List Ty) (spots : List Spot) (base : ℕ)
+    (rank : ℕ → ℕ) (below : ℕ) (calls : Calls) (fits : Fits codes f p types checks spots) (calls_run : CallsRun codes n p rank below calls) where
   abbrev code : List Mid
   code = (fn_of codes f).code
+
+  abbrev labelled : IsLabelled (fn_of codes f).code
+  labelled = fits.labelled
 
   abbrev here : ℕ → (ℕ → ℕ) → (ℕ → ℕ) → List Activation
   here pc values frame = at_here codes f rest labelled n p types spots base pc values frame
@@ -62,147 +146,38 @@ module _ (codes : MidCode) (f : ℕ) (rest : List Activation) (labelled : IsLabe
   abbrev Stood : Ty → (r : ℕ) → (ℕ → ℕ) → ℤ → Locals → (ℕ → ℕ) → (ℕ → ℕ) → Type 0
   Stood ty r old v env values frame = After p types spots base ty r old v env values frame
 
+  abbrev kind_at : Place → Kind
+  kind_at place = kind_of p types checks spots place
+
+  abbrev BehindPlace : Place → (r end : ℕ) → (ℕ → ℕ) → (Where → Locals → Behaviour) → Type 0
+  BehindPlace place r end old after = NextPlace codes f rest labelled n p types spots base (kind_at place) (place_type p types place) r end old after
+
+  abbrev Ready : List Ty → List ℕ → Type 0
+  Ready ds gs = IsReady checks rank below ds gs
+
+  -- what is ready for two parts is ready for each
+  two_ready : (ds es : List Ty) (gs hs : List ℕ) → Ready (ds ++ es) (gs ++ hs) → Ready ds gs × Ready es hs
+  two_ready ds es gs hs h =
+      let a = both_of (λ t. check_of checks t < length checks) ds es h.checked in
+      let b = both_of (λ g. rank g < below) gs hs h.lower in
+      (record { checked = a.0; lower = b.0 }, record { checked = a.1; lower = b.1 })
+
+  -- what stands behind the code of arguments
+  record AfterArgs (es : Exprs) (ts : List Ty) (r : ℕ) (old : ℕ → ℕ) (vs : List ℤ) (env : Locals) (values frame : ℕ → ℕ) : Type 0 where
+    holds : Holds p types spots base env values frame
+    keeps : Keeps base r old values
+    of : AreOf ts vs
+    pass : map values (passed_at p types checks spots es r) ≡ passed ts vs
+
+  abbrev BehindArgs : Exprs → List Ty → (r end : ℕ) → (ℕ → ℕ) → (List ℤ → Locals → Behaviour) → Type 0
+  BehindArgs es ts r end old after = (vs : List ℤ) (env : Locals) (values frame : ℕ → ℕ) → AfterArgs es ts r old vs env values frame → Runs codes n (after vs env) (here end values frame)
+
   null_is : (ty : Ty) → IsPointer p.structs ty → (values : ℕ → ℕ) (r : ℕ) → IsResult ty (pos 0) (put values r 0) r
   null_is void h values r = absurd h
   null_is (int t) h values r = absurd h
   null_is (pointer t) h values r = narrow_at codes f rest labelled n p types spots base U16 (pos 0) r 0 values refl refl refl
   null_is (array t m) h values r = absurd h
   null_is (struct k) h values r = absurd h
-
-  -- the count of a shift has a type of its own
-  abbrev SecondHeld : BinOp → IntType → (second : IntType) → ℤ → (ℕ → ℕ) → ℕ → Type 0
-  SecondHeld bin.Shl t second y values at = IsPromoted second × IsHeld second y values at
-  SecondHeld bin.Shr t second y values at = IsPromoted second × IsHeld second y values at
-  SecondHeld _ t second y values at = IsHeld t y values at
-
-  sum_runs : (op : BinOp) (t : IntType) (second : IntType) (x y : ℤ) (r l pc end : ℕ) (after : ℤ → Locals → Behaviour) (env : Locals) (first values frame : ℕ → ℕ) →
-      IsPromoted t → base ≤ r → IsHeld t x values r → SecondHeld op t second y values (r + 2) → Stands code pc (binary_code op t second r l) end →
-      Holds p types spots base env values frame → Keeps base r first values → Behind (int (binary_type op t)) r end first after →
-      Runs codes n (or_fault 3 (binary op t x y) after env) (here pc values frame)
-  sum_runs bin.Add I16 second x y r l pc end after env first values frame ok le hx hy s h k next =
-      narrow_runs codes f rest labelled n p types spots base Add I16 x y (wrapped I16 (x +ℤ y)) r pc end after env first values frame le refl (wrapped_again I16 (x +ℤ y))
-      (sym (low_sum x y) ∙ sym (low_wrapped I16 tt (x +ℤ y))) hx hy s h k next
-  sum_runs bin.Add U16 second x y r l pc end after env first values frame ok le hx hy s h k next =
-      narrow_runs codes f rest labelled n p types spots base Add U16 x y (wrapped U16 (x +ℤ y)) r pc end after env first values frame le refl (wrapped_again U16 (x +ℤ y))
-      (sym (low_sum x y) ∙ sym (low_wrapped U16 tt (x +ℤ y))) hx hy s h k next
-  sum_runs bin.Add I8 second x y r l pc end after env first values frame ok le hx hy s h k next = absurd ok
-  sum_runs bin.Add U8 second x y r l pc end after env first values frame ok le hx hy s h k next = absurd ok
-  sum_runs bin.Add I32 second x y r l pc end after env first values frame ok le hx hy s h k next =
-      wide_sum_runs codes f rest labelled n p types spots base Add I32 x y (wrapped I32 (x +ℤ y)) r pc end after env first values frame le refl (wrapped_again I32 (x +ℤ y)) (wide_low_sum I32 tt x y) (high_sum I32 tt x y) hx hy s h k next
-  sum_runs bin.Add U32 second x y r l pc end after env first values frame ok le hx hy s h k next =
-      wide_sum_runs codes f rest labelled n p types spots base Add U32 x y (wrapped U32 (x +ℤ y)) r pc end after env first values frame le refl (wrapped_again U32 (x +ℤ y)) (wide_low_sum U32 tt x y) (high_sum U32 tt x y) hx hy s h k next
-  sum_runs bin.Sub I16 second x y r l pc end after env first values frame ok le hx hy s h k next =
-      narrow_runs codes f rest labelled n p types spots base Sub I16 x y (wrapped I16 (x -ℤ y)) r pc end after env first values frame le refl (wrapped_again I16 (x -ℤ y))
-      (sym (low_difference x y) ∙ sym (low_wrapped I16 tt (x -ℤ y))) hx hy s h k next
-  sum_runs bin.Sub U16 second x y r l pc end after env first values frame ok le hx hy s h k next =
-      narrow_runs codes f rest labelled n p types spots base Sub U16 x y (wrapped U16 (x -ℤ y)) r pc end after env first values frame le refl (wrapped_again U16 (x -ℤ y))
-      (sym (low_difference x y) ∙ sym (low_wrapped U16 tt (x -ℤ y))) hx hy s h k next
-  sum_runs bin.Sub I8 second x y r l pc end after env first values frame ok le hx hy s h k next = absurd ok
-  sum_runs bin.Sub U8 second x y r l pc end after env first values frame ok le hx hy s h k next = absurd ok
-  sum_runs bin.Sub I32 second x y r l pc end after env first values frame ok le hx hy s h k next =
-      wide_sum_runs codes f rest labelled n p types spots base Sub I32 x y (wrapped I32 (x -ℤ y)) r pc end after env first values frame le refl (wrapped_again I32 (x -ℤ y)) (wide_low_difference I32 tt x y) (high_difference I32 tt x y) hx hy s h k next
-  sum_runs bin.Sub U32 second x y r l pc end after env first values frame ok le hx hy s h k next =
-      wide_sum_runs codes f rest labelled n p types spots base Sub U32 x y (wrapped U32 (x -ℤ y)) r pc end after env first values frame le refl (wrapped_again U32 (x -ℤ y)) (wide_low_difference U32 tt x y) (high_difference U32 tt x y) hx hy s h k next
-  sum_runs bin.Eq I16 second x y r l pc end after env first values frame ok le hx hy s h k next =
-      test_runs codes f rest labelled n p types spots base (int_eq x y) test.Eq r (r + 2) r l pc end after env first values frame le
-      (ap (λ m. m == values (r + 2)) hx.low_half ∙ ap (λ m. low x == m) hy.low_half ∙ equal_low I16 tt x y hx.number hy.number) s h k next
-  sum_runs bin.Ne I16 second x y r l pc end after env first values frame ok le hx hy s h k next =
-      test_runs codes f rest labelled n p types spots base (not (int_eq x y)) test.Ne r (r + 2) r l pc end after env first values frame le
-      (ap not (ap (λ m. m == values (r + 2)) hx.low_half ∙ ap (λ m. low x == m) hy.low_half ∙ equal_low I16 tt x y hx.number hy.number)) s h k next
-  sum_runs bin.Eq U16 second x y r l pc end after env first values frame ok le hx hy s h k next =
-      test_runs codes f rest labelled n p types spots base (int_eq x y) test.Eq r (r + 2) r l pc end after env first values frame le
-      (ap (λ m. m == values (r + 2)) hx.low_half ∙ ap (λ m. low x == m) hy.low_half ∙ equal_low U16 tt x y hx.number hy.number) s h k next
-  sum_runs bin.Ne U16 second x y r l pc end after env first values frame ok le hx hy s h k next =
-      test_runs codes f rest labelled n p types spots base (not (int_eq x y)) test.Ne r (r + 2) r l pc end after env first values frame le
-      (ap not (ap (λ m. m == values (r + 2)) hx.low_half ∙ ap (λ m. low x == m) hy.low_half ∙ equal_low U16 tt x y hx.number hy.number)) s h k next
-  sum_runs bin.Lt U16 second x y r l pc end after env first values frame ok le hx hy s h k next =
-      test_runs codes f rest labelled n p types spots base (int_lt x y) test.LtU r (r + 2) r l pc end after env first values frame le
-      (ap (λ m. nat_lt m (values (r + 2))) hx.low_half ∙ ap (nat_lt (low x)) hy.low_half ∙ less_low x y hx.number hy.number) s h k next
-  sum_runs bin.Le U16 second x y r l pc end after env first values frame ok le hx hy s h k next =
-      test_runs codes f rest labelled n p types spots base (not (int_lt y x)) test.LeU r (r + 2) r l pc end after env first values frame le
-      (ap (λ m. nat_le m (values (r + 2))) hx.low_half ∙ ap (nat_le (low x)) hy.low_half ∙ le_is (low x) (low y) ∙ ap not (less_low y x hy.number hx.number)) s h k next
-  sum_runs bin.Lt I16 second x y r l pc end after env first values frame ok le hx hy s h k next =
-      test_runs codes f rest labelled n p types spots base (int_lt x y) test.Lt r (r + 2) r l pc end after env first values frame le
-      (ap (λ m. int_lt m (wrapped I16 (pos (values (r + 2))))) (ap (λ m. wrapped I16 (pos m)) hx.low_half ∙ number_of_low I16 tt x hx.number) ∙ ap (int_lt x) (ap (λ m. wrapped I16 (pos m)) hy.low_half ∙ number_of_low I16 tt y hy.number)) s h k next
-  sum_runs bin.Le I16 second x y r l pc end after env first values frame ok le hx hy s h k next =
-      test_runs codes f rest labelled n p types spots base (not (int_lt y x)) test.Le r (r + 2) r l pc end after env first values frame le
-      (ap not (ap (λ m. int_lt m (wrapped I16 (pos (values r)))) (ap (λ m. wrapped I16 (pos m)) hy.low_half ∙ number_of_low I16 tt y hy.number) ∙ ap (int_lt y) (ap (λ m. wrapped I16 (pos m)) hx.low_half ∙ number_of_low I16 tt x hx.number))) s h k next
-  sum_runs bin.Eq I8 second x y r l pc end after env first values frame ok le hx hy s h k next = absurd ok
-  sum_runs bin.Eq U8 second x y r l pc end after env first values frame ok le hx hy s h k next = absurd ok
-  sum_runs bin.Eq I32 second x y r l pc end after env first values frame ok le hx hy s h k next =
-      wide_equal_runs codes f rest labelled n p types spots base (int_eq x y) test.Eq I32 x y r l pc end after env first values frame le tt (equal_halves I32 tt x y hx.number hy.number) hx hy s h k next
-  sum_runs bin.Eq U32 second x y r l pc end after env first values frame ok le hx hy s h k next =
-      wide_equal_runs codes f rest labelled n p types spots base (int_eq x y) test.Eq U32 x y r l pc end after env first values frame le tt (equal_halves U32 tt x y hx.number hy.number) hx hy s h k next
-  sum_runs bin.Ne I8 second x y r l pc end after env first values frame ok le hx hy s h k next = absurd ok
-  sum_runs bin.Ne U8 second x y r l pc end after env first values frame ok le hx hy s h k next = absurd ok
-  sum_runs bin.Ne I32 second x y r l pc end after env first values frame ok le hx hy s h k next =
-      wide_equal_runs codes f rest labelled n p types spots base (not (int_eq x y)) test.Ne I32 x y r l pc end after env first values frame le tt (ap not (equal_halves I32 tt x y hx.number hy.number)) hx hy s h k next
-  sum_runs bin.Ne U32 second x y r l pc end after env first values frame ok le hx hy s h k next =
-      wide_equal_runs codes f rest labelled n p types spots base (not (int_eq x y)) test.Ne U32 x y r l pc end after env first values frame le tt (ap not (equal_halves U32 tt x y hx.number hy.number)) hx hy s h k next
-  sum_runs bin.Lt I8 second x y r l pc end after env first values frame ok le hx hy s h k next = absurd ok
-  sum_runs bin.Lt U8 second x y r l pc end after env first values frame ok le hx hy s h k next = absurd ok
-  sum_runs bin.Lt I32 second x y r l pc end after env first values frame ok le hx hy s h k next =
-      wide_order_runs codes f rest labelled n p types spots base (int_lt x y) test.Lt test.LtU I32 x y r l pc end after env first values frame le tt (wide_signed_less x y hx.number hy.number) hx hy s h k next
-  sum_runs bin.Lt U32 second x y r l pc end after env first values frame ok le hx hy s h k next =
-      wide_order_runs codes f rest labelled n p types spots base (int_lt x y) test.LtU test.LtU U32 x y r l pc end after env first values frame le tt (wide_less x y hx.number hy.number) hx hy s h k next
-  sum_runs bin.Le I8 second x y r l pc end after env first values frame ok le hx hy s h k next = absurd ok
-  sum_runs bin.Le U8 second x y r l pc end after env first values frame ok le hx hy s h k next = absurd ok
-  sum_runs bin.Le I32 second x y r l pc end after env first values frame ok le hx hy s h k next =
-      wide_order_runs codes f rest labelled n p types spots base (not (int_lt y x)) test.Lt test.LeU I32 x y r l pc end after env first values frame le tt (wide_signed_at_most x y hx.number hy.number) hx hy s h k next
-  sum_runs bin.Le U32 second x y r l pc end after env first values frame ok le hx hy s h k next =
-      wide_order_runs codes f rest labelled n p types spots base (not (int_lt y x)) test.LtU test.LeU U32 x y r l pc end after env first values frame le tt (wide_at_most x y hx.number hy.number) hx hy s h k next
-  sum_runs bin.Mul t second x y r l pc end after env first values frame ok le hx hy s h k next =
-      product_runs codes f rest labelled n p types spots base t x y r pc end after env first values frame le ok hx hy s h k next
-  sum_runs bin.Div t second x y r l pc end after env first values frame ok le hx hy s h k next =
-      quotient_runs codes f rest labelled n p types spots base t x y r l pc end after env first values frame le ok hx hy s h k next
-  sum_runs bin.Rem t second x y r l pc end after env first values frame ok le hx hy s h k next =
-      rest_runs codes f rest labelled n p types spots base t x y r l pc end after env first values frame le ok hx hy s h k next
-  sum_runs bin.Shl t second x y r l pc end after env first values frame ok le hx hy s h k next =
-      left_runs codes f rest labelled n p types spots base t second x y r l pc end after env first values frame le ok hy.0 hx hy.1 s h k next
-  sum_runs bin.Shr t second x y r l pc end after env first values frame ok le hx hy s h k next =
-      right_runs codes f rest labelled n p types spots base t second x y r l pc end after env first values frame le ok hy.0 hx hy.1 s h k next
-  sum_runs bin.And I16 second x y r l pc end after env first values frame ok le hx hy s h k next =
-      narrow_runs codes f rest labelled n p types spots base And I16 x y (wrapped I16 (pos (bit_and (low x) (low y)))) r pc end after env first values frame le refl (wrapped_again I16 (pos (bit_and (low x) (low y))))
-      (low_of_word I16 tt (bit_and (low x) (low y)) (and_word x y)) hx hy s h k next
-  sum_runs bin.And U16 second x y r l pc end after env first values frame ok le hx hy s h k next =
-      narrow_runs codes f rest labelled n p types spots base And U16 x y (wrapped U16 (pos (bit_and (low x) (low y)))) r pc end after env first values frame le refl (wrapped_again U16 (pos (bit_and (low x) (low y))))
-      (low_of_word U16 tt (bit_and (low x) (low y)) (and_word x y)) hx hy s h k next
-  sum_runs bin.And I8 second x y r l pc end after env first values frame ok le hx hy s h k next = absurd ok
-  sum_runs bin.And U8 second x y r l pc end after env first values frame ok le hx hy s h k next = absurd ok
-  sum_runs bin.And I32 second x y r l pc end after env first values frame ok le hx hy s h k next =
-      let is = and_halves I32 tt x y in
-      wide_bits_runs codes f rest labelled n p types spots base And I32 x y (wrapped I32 (pos (bit_and (residue 32 x) (residue 32 y)))) r pc end after env first values frame le tt (wrapped_again I32 (pos (bit_and (residue 32 x) (residue 32 y)))) is.0 is.1 hx hy s h k next
-  sum_runs bin.And U32 second x y r l pc end after env first values frame ok le hx hy s h k next =
-      let is = and_halves U32 tt x y in
-      wide_bits_runs codes f rest labelled n p types spots base And U32 x y (wrapped U32 (pos (bit_and (residue 32 x) (residue 32 y)))) r pc end after env first values frame le tt (wrapped_again U32 (pos (bit_and (residue 32 x) (residue 32 y)))) is.0 is.1 hx hy s h k next
-  sum_runs bin.Or I16 second x y r l pc end after env first values frame ok le hx hy s h k next =
-      narrow_runs codes f rest labelled n p types spots base Or I16 x y (wrapped I16 (pos (bit_or (low x) (low y)))) r pc end after env first values frame le refl (wrapped_again I16 (pos (bit_or (low x) (low y))))
-      (low_of_word I16 tt (bit_or (low x) (low y)) (or_word x y)) hx hy s h k next
-  sum_runs bin.Or U16 second x y r l pc end after env first values frame ok le hx hy s h k next =
-      narrow_runs codes f rest labelled n p types spots base Or U16 x y (wrapped U16 (pos (bit_or (low x) (low y)))) r pc end after env first values frame le refl (wrapped_again U16 (pos (bit_or (low x) (low y))))
-      (low_of_word U16 tt (bit_or (low x) (low y)) (or_word x y)) hx hy s h k next
-  sum_runs bin.Or I8 second x y r l pc end after env first values frame ok le hx hy s h k next = absurd ok
-  sum_runs bin.Or U8 second x y r l pc end after env first values frame ok le hx hy s h k next = absurd ok
-  sum_runs bin.Or I32 second x y r l pc end after env first values frame ok le hx hy s h k next =
-      let is = or_halves I32 tt x y in
-      wide_bits_runs codes f rest labelled n p types spots base Or I32 x y (wrapped I32 (pos (bit_or (residue 32 x) (residue 32 y)))) r pc end after env first values frame le tt (wrapped_again I32 (pos (bit_or (residue 32 x) (residue 32 y)))) is.0 is.1 hx hy s h k next
-  sum_runs bin.Or U32 second x y r l pc end after env first values frame ok le hx hy s h k next =
-      let is = or_halves U32 tt x y in
-      wide_bits_runs codes f rest labelled n p types spots base Or U32 x y (wrapped U32 (pos (bit_or (residue 32 x) (residue 32 y)))) r pc end after env first values frame le tt (wrapped_again U32 (pos (bit_or (residue 32 x) (residue 32 y)))) is.0 is.1 hx hy s h k next
-  sum_runs bin.Xor I16 second x y r l pc end after env first values frame ok le hx hy s h k next =
-      narrow_runs codes f rest labelled n p types spots base Xor I16 x y (wrapped I16 (pos (bit_xor (low x) (low y)))) r pc end after env first values frame le refl (wrapped_again I16 (pos (bit_xor (low x) (low y))))
-      (low_of_word I16 tt (bit_xor (low x) (low y)) (xor_word x y)) hx hy s h k next
-  sum_runs bin.Xor U16 second x y r l pc end after env first values frame ok le hx hy s h k next =
-      narrow_runs codes f rest labelled n p types spots base Xor U16 x y (wrapped U16 (pos (bit_xor (low x) (low y)))) r pc end after env first values frame le refl (wrapped_again U16 (pos (bit_xor (low x) (low y))))
-      (low_of_word U16 tt (bit_xor (low x) (low y)) (xor_word x y)) hx hy s h k next
-  sum_runs bin.Xor I8 second x y r l pc end after env first values frame ok le hx hy s h k next = absurd ok
-  sum_runs bin.Xor U8 second x y r l pc end after env first values frame ok le hx hy s h k next = absurd ok
-  sum_runs bin.Xor I32 second x y r l pc end after env first values frame ok le hx hy s h k next =
-      let is = xor_halves I32 tt x y in
-      wide_bits_runs codes f rest labelled n p types spots base Xor I32 x y (wrapped I32 (pos (bit_xor (residue 32 x) (residue 32 y)))) r pc end after env first values frame le tt (wrapped_again I32 (pos (bit_xor (residue 32 x) (residue 32 y)))) is.0 is.1 hx hy s h k next
-  sum_runs bin.Xor U32 second x y r l pc end after env first values frame ok le hx hy s h k next =
-      let is = xor_halves U32 tt x y in
-      wide_bits_runs codes f rest labelled n p types spots base Xor U32 x y (wrapped U32 (pos (bit_xor (residue 32 x) (residue 32 y)))) r pc end after env first values frame le tt (wrapped_again U32 (pos (bit_xor (residue 32 x) (residue 32 y)))) is.0 is.1 hx hy s h k next
 
   callable_is : (o : Option Body) (Arguments : List Ty → Type 0) (ty : Ty) → IsCallable o Arguments ty → number_of (result_of o) ≡ number_of ty
   callable_is None A ty h = absurd h
@@ -245,7 +220,7 @@ module _ (codes : MidCode) (f : ℕ) (rest : List Activation) (labelled : IsLabe
   held_is (plain.comma a b) ty h = held_is b ty h.1
 
   abbrev Second : BinOp → IntType → Expr → Type 0
-  Second op t b = (s : IntType) × Has p types b (int s) × ((y : ℤ) (values : ℕ → ℕ) (at : ℕ) → IsHeld s y values at → SecondHeld op t (held p types b) y values at)
+  Second op t b = (s : IntType) × Has p types b (int s) × ((y : ℤ) (values : ℕ → ℕ) (at : ℕ) → IsHeld s y values at → SecondHeld codes f rest labelled n p types spots base op t (held p types b) y values at)
 
   count_of_shift : (b : Expr) (s : IntType) → IsPromoted s → Has p types b (int s) → (y : ℤ) (values : ℕ → ℕ) (at : ℕ) → IsHeld s y values at → IsPromoted (held p types b) × IsHeld (held p types b) y values at
   count_of_shift b s ok h y values at k = let same = sym (held_is b (int s) h) in (subst IsPromoted same ok, subst (λ u. IsHeld u y values at) same k)
@@ -293,394 +268,400 @@ module _ (codes : MidCode) (f : ℕ) (rest : List Activation) (labelled : IsLabe
   converted_scalar t (array u m) h = absurd h
   converted_scalar t (struct k) h = absurd h
 
-  negated_runs : (t : IntType) (v : ℤ) (r l pc end : ℕ) (after : ℤ → Locals → Behaviour) (env : Locals) (first values frame : ℕ → ℕ) →
-      IsPromoted t → base ≤ r → IsHeld t v values r → Stands code pc (unary_code un.Neg (is_wide t) r l) end →
-      Holds p types spots base env values frame → Keeps base r first values → Behind (int t) r end first after →
-      Runs codes n (after (unary un.Neg t v) env) (here pc values frame)
-  negated_runs I16 v r l pc end after env first values frame ok le held s h k next =
-      let z : ℤ = wrapped I16 (pos 0 -ℤ v) in
-      let one : ℕ → ℕ = put values (r + 2) 0 in
-      let w : ℕ = operate Sub (one (r + 2)) (one r) in
-      let is : w ≡ low z = ap (λ u. operate Sub u (one r)) (put_same values (r + 2) 0) ∙ ap (operate Sub 0) (put_other values (r + 2) 0 r (λ e. omega arith) ∙ held.low_half) ∙ negated I16 tt v in
-      set_runs codes f rest labelled n p types spots base (after z env) (r + 2) 0 pc values frame s.0
-      (goes codes n (after z env) _ (here (pc + 1 + 1) (put one r w) frame) (does codes f rest (pc + 1) one frame (Bin Sub r (r + 2) r) s.1.0)
-      (at_end codes f rest n (after z env) (pc + 1 + 1) end (put one r w) frame s.1.1
-      (next z env (put one r w) frame (record {
-        holds = holds_put base p types spots env one frame r w le (holds_put base p types spots env values frame (r + 2) 0 (omega arith) h);
-        keeps = keeps_put base r r w first one (omega arith) (keeps_put base r (r + 2) 0 first values (omega arith) k);
-        is = narrow_at codes f rest labelled n p types spots base I16 z r w one refl (wrapped_again I16 (pos 0 -ℤ v)) is;
-      }))))
-  negated_runs U16 v r l pc end after env first values frame ok le held s h k next =
-      let z : ℤ = wrapped U16 (pos 0 -ℤ v) in
-      let one : ℕ → ℕ = put values (r + 2) 0 in
-      let w : ℕ = operate Sub (one (r + 2)) (one r) in
-      let is : w ≡ low z = ap (λ u. operate Sub u (one r)) (put_same values (r + 2) 0) ∙ ap (operate Sub 0) (put_other values (r + 2) 0 r (λ e. omega arith) ∙ held.low_half) ∙ negated U16 tt v in
-      set_runs codes f rest labelled n p types spots base (after z env) (r + 2) 0 pc values frame s.0
-      (goes codes n (after z env) _ (here (pc + 1 + 1) (put one r w) frame) (does codes f rest (pc + 1) one frame (Bin Sub r (r + 2) r) s.1.0)
-      (at_end codes f rest n (after z env) (pc + 1 + 1) end (put one r w) frame s.1.1
-      (next z env (put one r w) frame (record {
-        holds = holds_put base p types spots env one frame r w le (holds_put base p types spots env values frame (r + 2) 0 (omega arith) h);
-        keeps = keeps_put base r r w first one (omega arith) (keeps_put base r (r + 2) 0 first values (omega arith) k);
-        is = narrow_at codes f rest labelled n p types spots base U16 z r w one refl (wrapped_again U16 (pos 0 -ℤ v)) is;
-      }))))
-  negated_runs I8 v r l pc end after env first values frame ok le held s h k next = absurd ok
-  negated_runs U8 v r l pc end after env first values frame ok le held s h k next = absurd ok
-  negated_runs I32 v r l pc end after env first values frame ok le held s h k next =
-      wide_negated_runs codes f rest labelled n p types spots base I32 v r l pc end after env first values frame le tt held s h k next
-  negated_runs U32 v r l pc end after env first values frame ok le held s h k next =
-      wide_negated_runs codes f rest labelled n p types spots base U32 v r l pc end after env first values frame le tt held s h k next
+  -- an update gives the old value or the new one
+  update_gives : (gives_old : Bool) (of : Ty) (old v : ℤ) (r pc end : ℕ) (after : ℤ → Locals → Behaviour) (env : Locals) (first values frame : ℕ → ℕ) →
+      base ≤ r → IsScalar of → IsHeld (number_of of) old values (r + 2) → IsHeld (number_of of) v values (r + 6) →
+      Stands code pc (move_code (is_wide (number_of of)) r (if gives_old then r + 2 else r + 6)) end → Holds p types spots base env values frame → Keeps base r first values →
+      Behind of r end first after → Runs codes n (after (if gives_old then old else v) env) (here pc values frame)
+  update_gives true of old v r pc end after env first values frame le scalar held_old held_new s h k next =
+      moved_runs codes f rest labelled n p types spots base (is_wide (number_of of)) (number_of of) old r (r + 2) pc end (after old env) env first values frame refl le (λ e. omega (arith, e)) held_old s h k
+      (λ values1 h1 k1 held1 _. next old env values1 frame (record { holds = h1; keeps = k1; is = as_result of old values1 r scalar held1 }))
+  update_gives false of old v r pc end after env first values frame le scalar held_old held_new s h k next =
+      moved_runs codes f rest labelled n p types spots base (is_wide (number_of of)) (number_of of) v r (r + 6) pc end (after v env) env first values frame refl le (λ e. omega (arith, e)) held_new s h k
+      (λ values1 h1 k1 held1 _. next v env values1 frame (record { holds = h1; keeps = k1; is = as_result of v values1 r scalar held1 }))
 
-  turned_runs : (t : IntType) (v : ℤ) (r l pc end : ℕ) (after : ℤ → Locals → Behaviour) (env : Locals) (first values frame : ℕ → ℕ) →
-      IsPromoted t → base ≤ r → IsHeld t v values r → Stands code pc (unary_code un.Not (is_wide t) r l) end →
-      Holds p types spots base env values frame → Keeps base r first values → Behind (int t) r end first after →
-      Runs codes n (after (unary un.Not t v) env) (here pc values frame)
-  turned_runs I16 v r l pc end after env first values frame ok le held s h k next =
-      not_runs codes f rest labelled n p types spots base false I16 v r l pc end after env first values frame le refl (not_low I16 tt v) (λ wide. absurd wide) held s h k next
-  turned_runs U16 v r l pc end after env first values frame ok le held s h k next =
-      not_runs codes f rest labelled n p types spots base false U16 v r l pc end after env first values frame le refl (not_low U16 tt v) (λ wide. absurd wide) held s h k next
-  turned_runs I32 v r l pc end after env first values frame ok le held s h k next =
-      not_runs codes f rest labelled n p types spots base true I32 v r l pc end after env first values frame le refl (wide_not_low I32 tt v) (λ wide. wide_not_high I32 tt v) held s h k next
-  turned_runs U32 v r l pc end after env first values frame ok le held s h k next =
-      not_runs codes f rest labelled n p types spots base true U32 v r l pc end after env first values frame le refl (wide_not_low U32 tt v) (λ wide. wide_not_high U32 tt v) held s h k next
-  turned_runs I8 v r l pc end after env first values frame ok le held s h k next = absurd ok
-  turned_runs U8 v r l pc end after env first values frame ok le held s h k next = absurd ok
+  mutual
+    pub place_runs : (place : Place) (r l pc end : ℕ) (after : Where → Locals → Behaviour) (env : Locals) (values frame : ℕ → ℕ) →
+        base ≤ r → IsPlace p types place → Ready (place_derefs place) (place_calls place) → Stands code pc (place_code p types checks spots place r l) end → Holds p types spots base env values frame →
+        BehindPlace place r end values after → Runs codes n (find p types calls place after env) (here pc values frame)
+    place_runs (plain.object k) r l pc end after env values frame le typed ready s h next =
+        object_runs codes f rest labelled n p types spots base (object_address (slice_get p.objects k)) (place_type p types (plain.object k)) r pc end after env values frame le
+        (object_word p.structs objects_start p.objects k fits.formed.addresses) s h next
+    place_runs (plain.local x) r l pc end after env values frame le typed ready s h next =
+        local_runs codes f rest labelled n p types spots base (slice_get spots x) x r pc end after env values frame le refl typed s h next
+    place_runs (plain.deref e t) r l pc end after env values frame le typed ready s h next =
+        let s1 = split code pc end (expr_code p types checks spots e r l) (Help (first_check + check_of checks t) (r ∷ []) [] ∷ []) s in
+        let one = All-head (λ u. check_of checks u < length checks) t (expr_derefs e) ready.checked in
+        let inner : Ready (expr_derefs e) (expr_calls e) = record { checked = All-tail (λ u. check_of checks u < length checks) t (expr_derefs e) ready.checked; lower = ready.lower } in
+        expr_runs e (pointer t) r l pc s1.0 (λ a. (if is_part p t (unsigned_abs a) then give (At (unsigned_abs a)) else fault 2) after) env values frame le typed.1 inner s1.1 h
+        (λ a env1 values1 frame1 h1. checked_runs codes f rest labelled n p types spots base checks t a r s1.0 end after env1 values values1 frame1 le fits.checked one typed.0.1 h1.is s1.2 h1.holds h1.keeps next)
+    place_runs (plain.index place e) r l pc end after env values frame le typed ready s h next =
+        let whole : Ty = place_type p types place in
+        let count : ℕ = count_of whole in
+        let size : ℕ = size_of p (element_of whole) in
+        let t = typed.2 in
+        let c = two_ready (place_derefs place) (expr_derefs e) (place_calls place) (expr_calls e) ready in
+        let s1 = split code pc end (place_code p types checks spots place r (l + 2)) _ s in
+        let s2 = split code s1.0 end (expr_code p types checks spots e (r + 2) (l + 2 + place_labels place)) (element_code (held p types e) count size r l) s1.2 in
+        place_runs place r (l + 2) pc s1.0 (λ w. value p types calls e (λ i. element count size w i after)) env values frame le typed.1 c.0 s1.1 h
+        (λ w env1 values1 frame1 h1. expr_runs e (int t.0) (r + 2) (l + 2 + place_labels place) s1.0 s2.0 (λ i. element count size w i after) env1 values1 frame1 (omega arith) t.1 c.1 s2.1 h1.holds
+        (λ i env2 values2 frame2 h2. element_runs codes f rest labelled n p types spots base (kind_at place) whole w (held p types e) i r l s2.0 end after env2 values values2 frame2 le typed.0 fits.lie
+        (found_still p types spots (kind_at place) whole w values1 values2 r (h2.keeps.at r le (omega arith)) h1.found)
+        (subst (λ u. IsHeld u i values2 (r + 2)) (sym (held_is e (int t.0) t.1)) h2.is) s2.2 h2.holds
+        (keeps_on base r (r + 2) values values1 values2 (omega arith) h1.keeps h2.keeps) next))
+    place_runs (plain.field place k) r l pc end after env values frame le typed ready s h next =
+        let whole : Ty = place_type p types place in
+        let s1 = split code pc end (place_code p types checks spots place r l) (Set (r + 2) (field_offset p.structs whole k) ∷ Bin Add r r (r + 2) ∷ []) s in
+        place_runs place r l pc s1.0 (λ w. after (moved w (field_offset p.structs whole k))) env values frame le typed.1 ready s1.1 h
+        (λ w env1 values1 frame1 h1. field_runs codes f rest labelled n p types spots base (kind_at place) whole k w r s1.0 end after env1 values values1 frame1 le fits.formed.structs fits.lie typed.0 h1.found s1.2 h1.holds h1.keeps next)
 
-  widened_runs : (t from : IntType) (v : ℤ) (r pc end : ℕ) (after : ℤ → Locals → Behaviour) (env : Locals) (first values frame : ℕ → ℕ) →
-      is_wide t ≡ true → Is32Bits t → IsShortUnsigned from → base ≤ r → IsHeld from v values r → Stands code pc (Set (r + 1) 0 ∷ []) end →
-      Holds p types spots base env values frame → Keeps base r first values → Behind (int t) r end first after →
-      Runs codes n (after (wrapped t v) env) (here pc values frame)
-  widened_runs t from v r pc end after env first values frame wide ok short le held s h k next =
-      let one : ℕ → ℕ = put values (r + 1) 0 in
-      let none : high (wrapped t v) ≡ 0 = ap (λ m. m / 65536) (rest_wrapped t ok v) ∙ no_high_of from short v held.number in
-      set_runs codes f rest labelled n p types spots base (after (wrapped t v) env) (r + 1) 0 pc values frame s.0
-      (at_end codes f rest n (after (wrapped t v) env) (pc + 1) end one frame s.1
-      (next (wrapped t v) env one frame (record {
-        holds = holds_put base p types spots env values frame (r + 1) 0 (omega arith) h;
-        keeps = keeps_put base r (r + 1) 0 first values (omega arith) k;
-        is = record {
-          number = wrapped_again t v;
-          low_half = put_other values (r + 1) 0 r (λ e. omega arith) ∙ held.low_half ∙ sym (low_wrapped_wide t ok v);
-          high_half = subst (λ b. IsHighHeld b (wrapped t v) one (r + 1)) (sym wide) (put_same values (r + 1) 0 ∙ sym none);
-        };
-      })))
+    args_runs : (es : Exprs) (ts : List Ty) (r l pc end : ℕ) (after : List ℤ → Locals → Behaviour) (env : Locals) (values frame : ℕ → ℕ) →
+        base ≤ r → AllHave p types es ts → All IsScalar ts → Ready (exprs_derefs es) (exprs_calls es) → Stands code pc (args_code p types checks spots es r l) end → Holds p types spots base env values frame →
+        BehindArgs es ts r end values after → Runs codes n (values_of p types calls es after env) (here pc values frame)
+    args_runs no_exprs [] r l pc end after env values frame le typed scalars ready s h next =
+        at_end codes f rest n (after [] env) pc end values frame s (next [] env values frame (record { holds = h; keeps = keeps_refl base r values; of = tt; pass = refl }))
+    args_runs no_exprs (t ∷ ts) r l pc end after env values frame le typed scalars ready s h next = absurd typed
+    args_runs (more_exprs e es) [] r l pc end after env values frame le typed scalars ready s h next = absurd typed
+    args_runs (more_exprs e es) (t ∷ ts) r l pc end after env values frame le typed scalars ready s h next =
+        let c = two_ready (expr_derefs e) (exprs_derefs es) (expr_calls e) (exprs_calls es) ready in
+        let s1 = split code pc end (expr_code p types checks spots e r l) (args_code p types checks spots es (r + 2) (l + labels e)) s in
+        let is = held_is e t typed.0 in
+        let ins : List ℕ = passed_at p types checks spots es (r + 2) in
+        let wide : Bool = is_wide (held p types e) in
+        expr_runs e t r l pc s1.0 (λ v. values_of p types calls es (λ vs. after (v ∷ vs))) env values frame le typed.0 c.0 s1.1 h
+        (λ v env1 values1 frame1 h1.
+        let number = as_number t v values1 r (All-head IsScalar t ts scalars) h1.is in
+        let held1 : IsHeld (held p types e) v values1 r = subst (λ u. IsHeld u v values1 r) (sym is) number in
+        args_runs es ts (r + 2) (l + labels e) s1.0 end (λ vs. after (v ∷ vs)) env1 values1 frame1 (omega arith) typed.1 (All-tail IsScalar t ts scalars) c.1 s1.2 h1.holds
+        (λ vs env2 values2 frame2 h2.
+        let held2 = still base (held p types e) v r (r + 2) values1 values2 le (omega arith) h2.keeps held1 in
+        next (v ∷ vs) env2 values2 frame2 (record {
+          holds = h2.holds;
+          keeps = keeps_on base r (r + 2) values values1 values2 (omega arith) h1.keeps h2.keeps;
+          of = (number.number, h2.of);
+          pass = map-append values2 (values_at wide r) ins ∙ ap (λ xs. xs ++ map values2 ins) (held_halves wide v values2 r held2.low_half held2.high_half)
+              ∙ ap (λ u. halves_of (is_wide u) v ++ map values2 ins) is ∙ ap (λ xs. halves_of (is_wide (number_of t)) v ++ xs) h2.pass;
+        })))
 
-  loaded_runs : (of : Ty) (a r pc end : ℕ) (after : ℤ → Locals → Behaviour) (env : Locals) (first values frame : ℕ → ℕ) →
-      IsNumberSized of → base ≤ r → values r ≡ a → Stands code pc (load_code (number_of of) r r) end →
-      Holds p types spots base env values frame → Keeps base r first values → Behind of r end first after →
-      Runs codes n (load of (At a) after env) (here pc values frame)
-  loaded_runs (int I32) a r pc end after env first values frame ok le e s h k next = wide_load_runs codes f rest labelled n p types spots base I32 a r pc end after env first values frame tt le e s h k next
-  loaded_runs (int U32) a r pc end after env first values frame ok le e s h k next = wide_load_runs codes f rest labelled n p types spots base U32 a r pc end after env first values frame tt le e s h k next
-  loaded_runs (int I8) a r pc end after env first values frame ok le e s h k next =
-      subst (λ u. Runs codes n (load (int I8) (At u) after env) (here pc values frame)) e
-      (wants codes n (action.Load (values r) false) (λ x. after (wrapped I8 (pos x)) env) _ (λ x. here (pc + 1) (put values r (x % 256)) frame) (does codes f rest pc values frame (Load false r r) s.0)
-      (λ x lt. subst (λ z. Runs codes n (after z env) (here (pc + 1) (put values r (x % 256)) frame)) (byte_again x)
-      (signed_byte_runs codes f rest labelled n p types spots base (pos (x % 256)) r (pc + 1) end after env first (put values r (x % 256)) frame le (put_same values r (x % 256) ∙ low_of_byte x) s.1
-      (holds_put base p types spots env values frame r (x % 256) le h) (keeps_put base r r (x % 256) first values (omega arith) k) next)))
-  loaded_runs void a r pc end after env first values frame ok le e s h k next = absurd ok
-  loaded_runs (array u m) a r pc end after env first values frame ok le e s h k next = absurd ok
-  loaded_runs (struct j) a r pc end after env first values frame ok le e s h k next = absurd ok
-  loaded_runs (int U8) a r pc end after env first values frame ok le e s h k next = load_runs codes f rest labelled n p types spots base (int U8) a r pc end after env first values frame tt le e s h k next
-  loaded_runs (int I16) a r pc end after env first values frame ok le e s h k next = load_runs codes f rest labelled n p types spots base (int I16) a r pc end after env first values frame tt le e s h k next
-  loaded_runs (int U16) a r pc end after env first values frame ok le e s h k next = load_runs codes f rest labelled n p types spots base (int U16) a r pc end after env first values frame tt le e s h k next
-  loaded_runs (pointer u) a r pc end after env first values frame ok le e s h k next = load_runs codes f rest labelled n p types spots base (pointer u) a r pc end after env first values frame tt le e s h k next
-
-  no_high_code : (wide signed : Bool) (r l : ℕ) → high_code wide false signed r l ≡ []
-  no_high_code true signed r l = refl
-  no_high_code false signed r l = refl
-
-  -- the high half of a number of 32 bits stays
-  kept_runs : (t from : IntType) (v : ℤ) (r pc end : ℕ) (after : ℤ → Locals → Behaviour) (env : Locals) (first values frame : ℕ → ℕ) →
-      Is32Bits t → Is32Bits from → IsHeld from v values r → pc ≡ end →
-      Holds p types spots base env values frame → Keeps base r first values → Behind (int t) r end first after →
-      Runs codes n (after (wrapped t v) env) (here pc values frame)
-  kept_runs t from v r pc end after env first values frame ok from_ok held e h k next =
-      at_end codes f rest n (after (wrapped t v) env) pc end values frame e
-      (next (wrapped t v) env values frame (record {
-        holds = h;
-        keeps = k;
-        is = wide_at t (wrapped t v) values r ok (wrapped_again t v) (held.low_half ∙ sym (low_wrapped_wide t ok v)) (high_of from v values r from_ok held ∙ ap (λ m. m / 65536) (sym (rest_wrapped t ok v)));
-      }))
-
-  converted_runs : (t from : IntType) (v : ℤ) (r l pc end : ℕ) (after : ℤ → Locals → Behaviour) (env : Locals) (first values frame : ℕ → ℕ) →
-      base ≤ r → IsHeld from v values r → Stands code pc (convert_code from t r l) end →
-      Holds p types spots base env values frame → Keeps base r first values → Behind (int t) r end first after →
-      Runs codes n (after (wrapped t v) env) (here pc values frame)
-  converted_runs I16 from v r l pc end after env first values frame le held s h k next =
-      at_end codes f rest n (after (wrapped I16 v) env) pc end values frame (subst (λ c. Stands code pc c end) (no_high_code (is_wide from) (is_signed from) r l) s)
-      (next (wrapped I16 v) env values frame (record { holds = h; keeps = k; is = record { number = wrapped_again I16 v; low_half = held.low_half ∙ sym (low_wrapped I16 tt v); high_half = tt } }))
-  converted_runs U16 from v r l pc end after env first values frame le held s h k next =
-      at_end codes f rest n (after (wrapped U16 v) env) pc end values frame (subst (λ c. Stands code pc c end) (no_high_code (is_wide from) (is_signed from) r l) s)
-      (next (wrapped U16 v) env values frame (record { holds = h; keeps = k; is = record { number = wrapped_again U16 v; low_half = held.low_half ∙ sym (low_wrapped U16 tt v); high_half = tt } }))
-  converted_runs U8 from v r l pc end after env first values frame le held s h k next =
-      byte_runs codes f rest labelled n p types spots base v (low v) r pc end after env first values frame le held.low_half (byte_low v)
-      (subst (λ c. Stands code pc (fit_code U8 r ++ c) end) (no_high_code (is_wide from) (is_signed from) r l) s) h k next
-  converted_runs I8 from v r l pc end after env first values frame le held s h k next =
-      signed_byte_runs codes f rest labelled n p types spots base v r pc end after env first values frame le held.low_half
-      (subst (λ c. Stands code pc (fit_code I8 r ++ c) end) (no_high_code (is_wide from) (is_signed from) r l) s) h k next
-  converted_runs I32 U8 v r l pc end after env first values frame le held s h k next = widened_runs I32 U8 v r pc end after env first values frame refl tt tt le held s h k next
-  converted_runs I32 U16 v r l pc end after env first values frame le held s h k next = widened_runs I32 U16 v r pc end after env first values frame refl tt tt le held s h k next
-  converted_runs I32 I8 v r l pc end after env first values frame le held s h k next = sign_runs codes f rest labelled n p types spots base I32 I8 v r l pc end after env first values frame le tt tt held s h k next
-  converted_runs I32 I16 v r l pc end after env first values frame le held s h k next = sign_runs codes f rest labelled n p types spots base I32 I16 v r l pc end after env first values frame le tt tt held s h k next
-  converted_runs I32 I32 v r l pc end after env first values frame le held s h k next = kept_runs I32 I32 v r pc end after env first values frame tt tt held s h k next
-  converted_runs I32 U32 v r l pc end after env first values frame le held s h k next = kept_runs I32 U32 v r pc end after env first values frame tt tt held s h k next
-  converted_runs U32 U8 v r l pc end after env first values frame le held s h k next = widened_runs U32 U8 v r pc end after env first values frame refl tt tt le held s h k next
-  converted_runs U32 U16 v r l pc end after env first values frame le held s h k next = widened_runs U32 U16 v r pc end after env first values frame refl tt tt le held s h k next
-  converted_runs U32 I8 v r l pc end after env first values frame le held s h k next = sign_runs codes f rest labelled n p types spots base U32 I8 v r l pc end after env first values frame le tt tt held s h k next
-  converted_runs U32 I16 v r l pc end after env first values frame le held s h k next = sign_runs codes f rest labelled n p types spots base U32 I16 v r l pc end after env first values frame le tt tt held s h k next
-  converted_runs U32 I32 v r l pc end after env first values frame le held s h k next = kept_runs U32 I32 v r pc end after env first values frame tt tt held s h k next
-  converted_runs U32 U32 v r l pc end after env first values frame le held s h k next = kept_runs U32 U32 v r pc end after env first values frame tt tt held s h k next
-
-  stored_runs : (of : Ty) (a : ℕ) (v : ℤ) (r pc end : ℕ) (after : ℤ → Locals → Behaviour) (env : Locals) (first values frame : ℕ → ℕ) →
-      IsNumberSized of → base ≤ r → values r ≡ a → IsResult of v values (r + 2) →
-      Stands code pc (store_code (number_of of) (r + 2) r ++ move_code (is_wide (number_of of)) r (r + 2)) end →
-      Holds p types spots base env values frame → Keeps base r first values → Behind of r end first after →
-      Runs codes n (store of (At a) v (λ _. after v) env) (here pc values frame)
-  stored_runs (int I32) a v r pc end after env first values frame ok le e held s h k next = wide_store_runs codes f rest labelled n p types spots base I32 a v r pc end after env first values frame tt le e held s h k next
-  stored_runs (int U32) a v r pc end after env first values frame ok le e held s h k next = wide_store_runs codes f rest labelled n p types spots base U32 a v r pc end after env first values frame tt le e held s h k next
-  stored_runs (int I8) a v r pc end after env first values frame ok le e held s h k next =
-      let x : ℕ = values (r + 2) in
-      let is : x % 256 ≡ residue 8 v = ap (λ m. m % 256) held.low_half ∙ byte_of_low v in
-      subst (λ u. Runs codes n (Does (action.Store u false (residue 8 v)) (after v env)) (here pc values frame)) e
-      (subst (λ z. Runs codes n (Does (action.Store (values r) false z) (after v env)) (here pc values frame)) is
-      (acts_on codes n (action.Store (values r) false (x % 256)) (after v env) _ (here (pc + 1) values frame) (does codes f rest pc values frame (Store false (r + 2) r) s.0)
-      (goes codes n (after v env) _ (here (pc + 1 + 1) (put values r x) frame) (does codes f rest (pc + 1) values frame (Move r (r + 2)) s.1.0)
-      (at_end codes f rest n (after v env) (pc + 1 + 1) end (put values r x) frame s.1.1
-      (next v env (put values r x) frame (record {
-        holds = holds_put base p types spots env values frame r x le h;
-        keeps = keeps_put base r r x first values (omega arith) k;
-        is = narrow_at codes f rest labelled n p types spots base I8 v r x values refl held.number held.low_half;
-      }))))))
-  stored_runs void a v r pc end after env first values frame ok le e held s h k next = absurd ok
-  stored_runs (array u m) a v r pc end after env first values frame ok le e held s h k next = absurd ok
-  stored_runs (struct j) a v r pc end after env first values frame ok le e held s h k next = absurd ok
-  stored_runs (int U8) a v r pc end after env first values frame ok le e held s h k next = store_runs codes f rest labelled n p types spots base (int U8) a v r pc end after env first values frame tt le e held s h k next
-  stored_runs (int I16) a v r pc end after env first values frame ok le e held s h k next = store_runs codes f rest labelled n p types spots base (int I16) a v r pc end after env first values frame tt le e held s h k next
-  stored_runs (int U16) a v r pc end after env first values frame ok le e held s h k next = store_runs codes f rest labelled n p types spots base (int U16) a v r pc end after env first values frame tt le e held s h k next
-  stored_runs (pointer u) a v r pc end after env first values frame ok le e held s h k next = store_runs codes f rest labelled n p types spots base (pointer u) a v r pc end after env first values frame tt le e held s h k next
-
-  pub expr_runs : (e : Expr) (ty : Ty) (r l pc end : ℕ) (after : ℤ → Locals → Behaviour) (env : Locals) (values frame : ℕ → ℕ) →
-      base ≤ r → Has p types e ty → IsCovered p types spots e → Stands code pc (expr_code p types checks spots e r l) end → Holds p types spots base env values frame →
-      Behind ty r end values after → Runs codes n (value p types calls e after env) (here pc values frame)
-  expr_runs (plain.const t x) ty r l pc end after env values frame le typed covered s h next =
-      const_runs codes f rest labelled n p types spots base t x r pc end after env values frame le typed.1 s h (subst (λ u. Behind u r end values after) typed.0 next)
-  expr_runs plain.null ty r l pc end after env values frame le typed covered s h next =
-      set_runs codes f rest labelled n p types spots base (after (pos 0) env) r 0 pc values frame s.0
-      (at_end codes f rest n (after (pos 0) env) (pc + 1) end (put values r 0) frame s.1
-      (next (pos 0) env (put values r 0) frame (record {
-        holds = holds_put base p types spots env values frame r 0 le h;
-        keeps = keeps_put base r r 0 values values (omega arith) (keeps_refl base r values);
-        is = null_is ty typed values r;
-      })))
-  expr_runs (plain.read (plain.object k) at) ty r l pc end after env values frame le typed covered s h next =
-      let a : ℕ = object_address (slice_get p.objects k) in
-      let of : Ty = place_type p types (plain.object k) in
-      set_runs codes f rest labelled n p types spots base (load of (At a) after env) r a pc values frame s.0
-      (loaded_runs of a r (pc + 1) end after env values (put values r a) frame covered le (put_same values r a) s.1
-      (holds_put base p types spots env values frame r a le h) (keeps_put base r r a values values (omega arith) (keeps_refl base r values))
-      (subst (λ u. Behind u r end values after) typed.0 next))
-  expr_runs (plain.bin op t a b) ty r l pc end after env values frame le typed covered s h next =
-      let s1 = split code pc end (expr_code p types checks spots a r (l + 3)) _ s in
-      let s2 = split code s1.0 end (expr_code p types checks spots b (r + 2) (l + 3 + labels a)) (binary_code op t (held p types b) r l) s1.2 in
-      let second = second_of op t b typed.3 in
-      expr_runs a (int t) r (l + 3) pc s1.0 (λ x. value p types calls b (λ y. or_fault 3 (binary op t x y) after)) env values frame le typed.2 covered.0 s1.1 h
-      (λ x env1 values1 frame1 h1. expr_runs b (int second.0) (r + 2) (l + 3 + labels a) s1.0 s2.0 (λ y. or_fault 3 (binary op t x y) after) env1 values1 frame1 (omega arith)
-      second.1 covered.1 s2.1 h1.holds
-      (λ y env2 values2 frame2 h2.
-      sum_runs op t (held p types b) x y r l s2.0 end after env2 values values2 frame2 typed.1 le
-      (still base t x r (r + 2) values1 values2 le (omega arith) h2.keeps h1.is) (second.2 y values2 (r + 2) h2.is) s2.2 h2.holds
-      (keeps_on base r (r + 2) values values1 values2 (omega arith) h1.keeps h2.keeps)
-      (subst (λ u. Behind u r end values after) typed.0 next)))
-  expr_runs (plain.port_in port) ty r l pc end after env values frame le typed covered s h next =
-      wants codes n (action.In port) (λ x. after (pos x) env) _ (λ x. here (pc + 1) (put values r x) frame) (does codes f rest pc values frame (In r port) s.0)
-      (λ x lt. at_end codes f rest n (after (pos x) env) (pc + 1) end (put values r x) frame s.1
-      (subst (λ u. Behind u r end values after) typed.0 next (pos x) env (put values r x) frame (record {
-        holds = holds_put base p types spots env values frame r x le h;
-        keeps = keeps_put base r r x values values (omega arith) (keeps_refl base r values);
-        is = narrow_at codes f rest labelled n p types spots base U16 (pos x) r x values refl (word_number x lt) (low_word x lt);
-      })))
-  expr_runs (plain.port_out port e) ty r l pc end after env values frame le typed covered s h next =
-      let s1 = split code pc end (expr_code p types checks spots e r l) _ s in
-      expr_runs e (int U16) r l pc s1.0 (λ v. λ env1. Does (action.Out port (residue 16 v)) (after v env1)) env values frame le typed.2 covered s1.1 h
-      (λ v env1 values1 frame1 h1.
-      let is : values1 r ≡ low v = h1.is.low_half in
-      subst (λ z. Runs codes n (Does (action.Out port z) (after v env1)) (here s1.0 values1 frame1)) is
-      (acts_on codes n (action.Out port (values1 r)) (after v env1) _ (here (s1.0 + 1) values1 frame1) (does codes f rest s1.0 values1 frame1 (Out port r) s1.2.0)
-      (at_end codes f rest n (after v env1) (s1.0 + 1) end values1 frame1 s1.2.1
-      (subst (λ u. Behind u r end values after) typed.0 next v env1 values1 frame1 (record { holds = h1.holds; keeps = h1.keeps; is = tt })))))
-  expr_runs (plain.comma a b) ty r l pc end after env values frame le typed covered s h next =
-      let s1 = split code pc end (expr_code p types checks spots a r l) (expr_code p types checks spots b r (l + labels a)) s in
-      expr_runs a typed.0.0 r l pc s1.0 (λ x. value p types calls b after) env values frame le typed.0.1 covered.0 s1.1 h
-      (λ x env1 values1 frame1 h1. expr_runs b ty r (l + labels a) s1.0 end after env1 values1 frame1 le typed.1 covered.1 s1.2 h1.holds
-      (λ y env2 values2 frame2 h2. next y env2 values2 frame2 (record {
-        holds = h2.holds;
-        keeps = keeps_on base r r values values1 values2 (omega arith) h1.keeps h2.keeps;
-        is = h2.is;
-      })))
-  expr_runs (plain.un un.IsZero t e) ty r l pc end after env values frame le typed covered s h next =
-      let s1 = split code pc end (expr_code p types checks spots e r (l + 2)) _ s in
-      expr_runs e (int t) r (l + 2) pc s1.0 (λ x. after (truth (is_zero x))) env values frame le typed.2 covered s1.1 h
-      (λ x env1 values1 frame1 h1. zero_truth_runs codes f rest labelled n p types spots base (is_wide t) t x r l s1.0 end after env1 values values1 frame1 le refl h1.is s1.2 h1.holds h1.keeps
-      (subst (λ u. Behind u r end values after) typed.0 next))
-  expr_runs (plain.un un.Neg t e) ty r l pc end after env values frame le typed covered s h next =
-      let s1 = split code pc end (expr_code p types checks spots e r (l + 2)) _ s in
-      expr_runs e (int t) r (l + 2) pc s1.0 (λ x. after (unary un.Neg t x)) env values frame le typed.2 covered s1.1 h
-      (λ x env1 values1 frame1 h1. negated_runs t x r l s1.0 end after env1 values values1 frame1 typed.1 le h1.is s1.2 h1.holds h1.keeps
-      (subst (λ u. Behind u r end values after) typed.0 next))
-  expr_runs (plain.un un.Not t e) ty r l pc end after env values frame le typed covered s h next =
-      let s1 = split code pc end (expr_code p types checks spots e r (l + 2)) _ s in
-      expr_runs e (int t) r (l + 2) pc s1.0 (λ x. after (unary un.Not t x)) env values frame le typed.2 covered s1.1 h
-      (λ x env1 values1 frame1 h1. turned_runs t x r l s1.0 end after env1 values values1 frame1 typed.1 le h1.is s1.2 h1.holds h1.keeps
-      (subst (λ u. Behind u r end values after) typed.0 next))
-  expr_runs (plain.post k) ty r l pc end after env values frame le typed covered s h next =
-      wants codes n (action.Post k) (λ x. after (wrapped U8 (pos x)) env) _ (λ x. here (pc + 1) (put values r x) frame) (does codes f rest pc values frame (Post k r) s.0)
-      (λ x lt. byte_runs codes f rest labelled n p types spots base (pos x) x r (pc + 1) end after env values (put values r x) frame le (put_same values r x) (low_byte x) s.1
-      (holds_put base p types spots env values frame r x le h) (keeps_put base r r x values values (omega arith) (keeps_refl base r values))
-      (subst (λ u. Behind u r end values after) typed.0 next))
-  expr_runs (plain.both a b) ty r l pc end after env values frame le typed covered s h next =
-      let next_int : Behind (int I16) r end values after = subst (λ u. Behind u r end values after) typed.0 next in
-      let s1 = split code pc end (expr_code p types checks spots a r (l + 2)) _ s in
-      let s2 = split code s1.0 end (zero_code test.Eq (is_wide (held p types a)) r l) _ s1.2 in
-      let s3 = split code s2.0 end (expr_code p types checks spots b r (l + 2 + labels a)) _ s2.2 in
-      let s4 = split code s3.0 end (zero_code test.Eq (is_wide (held p types b)) r l) (Set r 1 ∷ Jump (l + 1) ∷ Label l ∷ Set r 0 ∷ Label (l + 1) ∷ []) s3.2 in
-      let to : ℕ = s4.0 + 1 + 1 in
-      let tail = s4.2.1.1 in
-      let ta = typed.1 in
-      let tb = typed.2 in
-      let second : Work ℤ = λ k. value p types calls b (λ y. k (truth (not (is_zero y)))) in
-      expr_runs a ta.0 r (l + 2) pc s1.0 (λ x. (if is_zero x then give (pos 0) else second) after) env values frame le ta.2 covered.0 s1.1 h
-      (λ x env1 values1 frame1 h1.
-      let ha = as_number codes f rest labelled n p types spots base ta.0 x values1 r ta.1 h1.is in
-      let na = width_is a ta.0 ta.2 in
-      let wa : Bool = is_wide (held p types a) in
-      by_zero (is_zero x) x (give (pos 0)) second after env1 _ refl
-      (λ e. zero_test_runs codes f rest labelled n p types spots base wa true (number_of ta.0) x (after (pos 0) env1) r l s1.0 s2.0 to values1 frame1 na ha e s2.1 tail.0
-      (λ _. let sp = spare wa ta.0 r values x env1 values1 frame1 le h1 in
-      last_runs codes f rest labelled n p types spots base 0 l to end r (pos 0) after env1 values (tested wa values1 r) frame1 le refl refl tail sp.0 sp.1 next_int)
-      (λ q. absurd (cc)))
-      (λ e. zero_test_runs codes f rest labelled n p types spots base wa false (number_of ta.0) x (second after env1) r l s1.0 s2.0 to values1 frame1 na ha e s2.1 tail.0
-      (λ q. absurd (cc))
-      (λ _. let sp = spare wa ta.0 r values x env1 values1 frame1 le h1 in
-      expr_runs b tb.0 r (l + 2 + labels a) s2.0 s3.0 (λ y. after (truth (not (is_zero y)))) env1 (tested wa values1 r) frame1 le tb.2 covered.1 s3.1 sp.0
-      (λ y env2 values2 frame2 h2.
-      let hb = as_number codes f rest labelled n p types spots base tb.0 y values2 r tb.1 h2.is in
-      let nb = width_is b tb.0 tb.2 in
-      let wb : Bool = is_wide (held p types b) in
-      let sq = spare wb tb.0 r (tested wa values1 r) y env2 values2 frame2 le h2 in
-      let kept = keeps_on base r r values (tested wa values1 r) (tested wb values2 r) (omega arith) sp.1 sq.1 in
-      by_truth (is_zero y) y after env2 _ refl
-      (λ e2. zero_test_runs codes f rest labelled n p types spots base wb true (number_of tb.0) y (after (pos 0) env2) r l s3.0 s4.0 to values2 frame2 nb hb e2 s4.1 tail.0
-      (λ _. last_runs codes f rest labelled n p types spots base 0 l to end r (pos 0) after env2 values (tested wb values2 r) frame2 le refl refl tail sq.0 kept next_int)
-      (λ q. absurd (cc)))
-      (λ e2. zero_test_runs codes f rest labelled n p types spots base wb false (number_of tb.0) y (after (pos 1) env2) r l s3.0 s4.0 to values2 frame2 nb hb e2 s4.1 tail.0
-      (λ q. absurd (cc))
-      (λ _. first_runs codes f rest labelled n p types spots base 1 0 l s4.0 end r (pos 1) after env2 values (tested wb values2 r) frame2 le refl refl s4.2 sq.0 kept next_int))))))
-  expr_runs (plain.convert t e) ty r l pc end after env values frame le typed covered s h next =
-      let s1 = split code pc end (expr_code p types checks spots e r (l + 1)) (convert_code (held p types e) t r l) s in
-      let from = typed.1 in
-      expr_runs e from.0 r (l + 1) pc s1.0 (λ x. after (wrapped t x)) env values frame le from.1.1 covered s1.1 h
-      (λ x env1 values1 frame1 h1.
-      let held1 = as_number codes f rest labelled n p types spots base from.0 x values1 r (converted_scalar t from.0 from.1.0) h1.is in
-      converted_runs t (held p types e) x r l s1.0 end after env1 values values1 frame1 le
-      (subst (λ u. IsHeld u x values1 r) (sym (held_is e from.0 from.1.1)) held1) s1.2 h1.holds h1.keeps
-      (subst (λ u. Behind u r end values after) typed.0 next))
-  expr_runs (plain.read (plain.local y) at) ty r l pc end after env values frame le typed covered s h next =
-      local_runs codes f rest labelled n p types spots base (slice_get spots y) (place_type p types (plain.local y)) y _ r pc end after env values values frame covered.0 covered.1 (h.bytes y typed.2)
-      (h.at y typed.2) le s h (keeps_refl base r values) (subst (λ u. Behind u r end values after) typed.0 next)
-  expr_runs (plain.choice question a b) ty r l pc end after env values frame le typed covered s h next =
-      let s1 = split code pc end (expr_code p types checks spots question r (l + 2)) _ s in
-      let s2 = split code s1.0 end (zero_code test.Eq (is_wide (held p types question)) r l) _ s1.2 in
-      let s3 = split code s2.0 end (expr_code p types checks spots a r (l + 2 + labels question)) (Jump (l + 1) ∷ Label l ∷ (expr_code p types checks spots b r (l + 2 + labels question + labels a) ++ Label (l + 1) ∷ [])) s2.2 in
-      let s4 = split code (s3.0 + 1 + 1) end (expr_code p types checks spots b r (l + 2 + labels question + labels a)) (Label (l + 1) ∷ []) s3.2.1.1 in
-      let tt0 = typed.0 in
-      expr_runs question tt0.0 r (l + 2) pc s1.0 (λ x. (if is_zero x then value p types calls b else value p types calls a) after) env values frame le tt0.2 covered.0 s1.1 h
-      (λ x env1 values1 frame1 h1.
-      let ht = as_number codes f rest labelled n p types spots base tt0.0 x values1 r tt0.1 h1.is in
-      let nt = width_is question tt0.0 tt0.2 in
-      let wt : Bool = is_wide (held p types question) in
-      let sp = spare wt tt0.0 r values x env1 values1 frame1 le h1 in
-      let joined : (v : ℤ) (env2 : Locals) (values2 frame2 : ℕ → ℕ) → Stood ty r (tested wt values1 r) v env2 values2 frame2 → Runs codes n (after v env2) (here s4.0 values2 frame2) =
-      λ v env2 values2 frame2 h2. label_runs codes f rest labelled n p types spots base (after v env2) (l + 1) s4.0 values2 frame2 s4.2.0
-      (at_end codes f rest n (after v env2) (s4.0 + 1) end values2 frame2 s4.2.1
-      (next v env2 values2 frame2 (record { holds = h2.holds; keeps = keeps_on base r r values (tested wt values1 r) values2 (omega arith) sp.1 h2.keeps; is = h2.is }))) in
-      by_zero (is_zero x) x (value p types calls b) (value p types calls a) after env1 _ refl
-      (λ e. zero_test_runs codes f rest labelled n p types spots base wt true (number_of tt0.0) x (value p types calls b after env1) r l s1.0 s2.0 (s3.0 + 1) values1 frame1 nt ht e s2.1 s3.2.1.0
-      (λ _. label_runs codes f rest labelled n p types spots base (value p types calls b after env1) l (s3.0 + 1) (tested wt values1 r) frame1 s3.2.1.0
-      (expr_runs b ty r (l + 2 + labels question + labels a) (s3.0 + 1 + 1) s4.0 after env1 (tested wt values1 r) frame1 le typed.2 covered.2 s4.1 sp.0 joined))
-      (λ q. absurd (cc)))
-      (λ e. zero_test_runs codes f rest labelled n p types spots base wt false (number_of tt0.0) x (value p types calls a after env1) r l s1.0 s2.0 (s3.0 + 1) values1 frame1 nt ht e s2.1 s3.2.1.0
-      (λ q. absurd (cc))
-      (λ _. expr_runs a ty r (l + 2 + labels question) s2.0 s3.0 after env1 (tested wt values1 r) frame1 le typed.1 covered.1 s3.1 sp.0
-      (λ v env2 values2 frame2 h2. jump_runs codes f rest labelled n (after v env2) (l + 1) s3.0 s4.0 values2 frame2 s3.2.0 s4.2.0 (joined v env2 values2 frame2 h2)))))
-  expr_runs (plain.either a b) ty r l pc end after env values frame le typed covered s h next =
-      let next_int : Behind (int I16) r end values after = subst (λ u. Behind u r end values after) typed.0 next in
-      let s1 = split code pc end (expr_code p types checks spots a r (l + 2)) _ s in
-      let s2 = split code s1.0 end (zero_code test.Ne (is_wide (held p types a)) r l) _ s1.2 in
-      let s3 = split code s2.0 end (expr_code p types checks spots b r (l + 2 + labels a)) _ s2.2 in
-      let s4 = split code s3.0 end (zero_code test.Ne (is_wide (held p types b)) r l) (truth_code r l) s3.2 in
-      let to : ℕ = s4.0 + 1 + 1 in
-      let tail = s4.2.1.1 in
-      let ta = typed.1 in
-      let tb = typed.2 in
-      let second : Work ℤ = λ k. value p types calls b (λ y. k (truth (not (is_zero y)))) in
-      expr_runs a ta.0 r (l + 2) pc s1.0 (λ x. (if is_zero x then second else give (pos 1)) after) env values frame le ta.2 covered.0 s1.1 h
-      (λ x env1 values1 frame1 h1.
-      let ha = as_number codes f rest labelled n p types spots base ta.0 x values1 r ta.1 h1.is in
-      let na = width_is a ta.0 ta.2 in
-      let wa : Bool = is_wide (held p types a) in
-      let sp = spare wa ta.0 r values x env1 values1 frame1 le h1 in
-      by_zero (is_zero x) x second (give (pos 1)) after env1 _ refl
-      (λ e. non_zero_test_runs codes f rest labelled n p types spots base wa false (number_of ta.0) x (second after env1) r l s1.0 s2.0 to values1 frame1 na ha (ap not e) s2.1 tail.0
-      (λ q. absurd (cc))
-      (λ _. expr_runs b tb.0 r (l + 2 + labels a) s2.0 s3.0 (λ y. after (truth (not (is_zero y)))) env1 (tested wa values1 r) frame1 le tb.2 covered.1 s3.1 sp.0
-      (λ y env2 values2 frame2 h2.
-      let hb = as_number codes f rest labelled n p types spots base tb.0 y values2 r tb.1 h2.is in
-      let nb = width_is b tb.0 tb.2 in
-      let wb : Bool = is_wide (held p types b) in
-      let sq = spare wb tb.0 r (tested wa values1 r) y env2 values2 frame2 le h2 in
-      let kept = keeps_on base r r values (tested wa values1 r) (tested wb values2 r) (omega arith) sp.1 sq.1 in
-      by_truth (is_zero y) y after env2 _ refl
-      (λ e2. non_zero_test_runs codes f rest labelled n p types spots base wb false (number_of tb.0) y (after (pos 0) env2) r l s3.0 s4.0 to values2 frame2 nb hb (ap not e2) s4.1 tail.0
-      (λ q. absurd (cc))
-      (λ _. first_runs codes f rest labelled n p types spots base 0 1 l s4.0 end r (pos 0) after env2 values (tested wb values2 r) frame2 le refl refl s4.2 sq.0 kept next_int))
-      (λ e2. non_zero_test_runs codes f rest labelled n p types spots base wb true (number_of tb.0) y (after (pos 1) env2) r l s3.0 s4.0 to values2 frame2 nb hb (ap not e2) s4.1 tail.0
-      (λ _. last_runs codes f rest labelled n p types spots base 1 l to end r (pos 1) after env2 values (tested wb values2 r) frame2 le refl refl tail sq.0 kept next_int)
-      (λ q. absurd (cc))))))
-      (λ e. non_zero_test_runs codes f rest labelled n p types spots base wa true (number_of ta.0) x (after (pos 1) env1) r l s1.0 s2.0 to values1 frame1 na ha (ap not e) s2.1 tail.0
-      (λ _. last_runs codes f rest labelled n p types spots base 1 l to end r (pos 1) after env1 values (tested wa values1 r) frame1 le refl refl tail sp.0 sp.1 next_int)
-      (λ q. absurd (cc))))
-  expr_runs (plain.assign (plain.object k) e at) ty r l pc end after env values frame le typed covered s h next =
-      let a : ℕ = object_address (slice_get p.objects k) in
-      let of : Ty = place_type p types (plain.object k) in
-      let s2 = split code (pc + 1) end (expr_code p types checks spots e (r + 2) (l + 0)) _ s.1 in
-      set_runs codes f rest labelled n p types spots base (value p types calls e (λ v. store of (At a) v (λ _. after v)) env) r a pc values frame s.0
-      (expr_runs e of (r + 2) (l + 0) (pc + 1) s2.0 (λ v. store of (At a) v (λ _. after v)) env (put values r a) frame (omega arith)
-      (subst (λ u. Has p types e u) typed.0 typed.3) covered.1 s2.1 (holds_put base p types spots env values frame r a le h)
-      (λ v env1 values1 frame1 h1.
-      stored_runs of a v r s2.0 end after env1 values values1 frame1 covered.0 le
-      (h1.keeps.at r le (omega arith) ∙ put_same values r a) h1.is s2.2 h1.holds
-      (keeps_on base r (r + 2) values (put values r a) values1 (omega arith) (keeps_put base r r a values values (omega arith) (keeps_refl base r values)) h1.keeps)
-      (subst (λ u. Behind u r end values after) typed.0 next)))
-  expr_runs (plain.assign (plain.local y) e at) ty r l pc end after env values frame le typed covered s h next =
-      let of : Ty = place_type p types (plain.local y) in
-      let s1 = split code pc end (local_code (slice_get spots y) r) _ s in
-      let s2 = split code s1.0 end (expr_code p types checks spots e (r + 2) (l + 0)) _ s1.2 in
-      at_end codes f rest n (value p types calls e (λ v. store of (Within y 0) v (λ _. after v)) env) pc s1.0 values frame
-      (nothing_first codes f rest labelled n p types spots base (slice_get spots y) r pc s1.0 covered.0.0 s1.1)
-      (expr_runs e of (r + 2) (l + 0) s1.0 s2.0 (λ v. store of (Within y 0) v (λ _. after v)) env values frame (omega arith)
-      (subst (λ u. Has p types e u) typed.0 typed.3) covered.1 s2.1 h
-      (λ v env1 values1 frame1 h1.
-      local_kept_runs codes f rest labelled n p types spots base (slice_get spots y) of y v r s2.0 end after env1 values values1 frame1 covered.0.0 covered.0.1 refl refl typed.2 le
-      (h1.holds.at y typed.2) h1.is s2.2 h1.holds
-      (keeps_on base r (r + 2) values values values1 (omega arith) (keeps_refl base r values) h1.keeps)
-      (subst (λ u. Behind u r end values after) typed.0 next)))
-  expr_runs (plain.read (plain.deref e t) at) ty r l pc end after env values frame le typed covered s h next = absurd covered
-  expr_runs (plain.read (plain.index place e) at) ty r l pc end after env values frame le typed covered s h next = absurd covered
-  expr_runs (plain.read (plain.field place k) at) ty r l pc end after env values frame le typed covered s h next = absurd covered
-  expr_runs (plain.addr place) ty r l pc end after env values frame le typed covered s h next = absurd covered
-  expr_runs (plain.offset a b size) ty r l pc end after env values frame le typed covered s h next = absurd covered
-  expr_runs (plain.distance a b size) ty r l pc end after env values frame le typed covered s h next = absurd covered
-  expr_runs (plain.update place op t e gives_old at) ty r l pc end after env values frame le typed covered s h next = absurd covered
-  expr_runs (plain.call g arguments at) ty r l pc end after env values frame le typed covered s h next = absurd covered
-  expr_runs (plain.assign (plain.deref u t) e at) ty r l pc end after env values frame le typed covered s h next = absurd covered.0
-  expr_runs (plain.assign (plain.index place u) e at) ty r l pc end after env values frame le typed covered s h next = absurd covered.0
-  expr_runs (plain.assign (plain.field place k) e at) ty r l pc end after env values frame le typed covered s h next = absurd covered.0
+    pub expr_runs : (e : Expr) (ty : Ty) (r l pc end : ℕ) (after : ℤ → Locals → Behaviour) (env : Locals) (values frame : ℕ → ℕ) →
+        base ≤ r → Has p types e ty → Ready (expr_derefs e) (expr_calls e) → Stands code pc (expr_code p types checks spots e r l) end → Holds p types spots base env values frame →
+        Behind ty r end values after → Runs codes n (value p types calls e after env) (here pc values frame)
+    expr_runs (plain.const t x) ty r l pc end after env values frame le typed ready s h next =
+        const_runs codes f rest labelled n p types spots base t x r pc end after env values frame le typed.1 s h (subst (λ u. Behind u r end values after) typed.0 next)
+    expr_runs plain.null ty r l pc end after env values frame le typed ready s h next =
+        set_runs codes f rest labelled n p types spots base (after (pos 0) env) r 0 pc values frame s.0
+        (at_end codes f rest n (after (pos 0) env) (pc + 1) end (put values r 0) frame s.1
+        (next (pos 0) env (put values r 0) frame (record {
+          holds = holds_put base p types spots env values frame r 0 le h;
+          keeps = keeps_put base r r 0 values values (omega arith) (keeps_refl base r values);
+          is = null_is ty typed values r;
+        })))
+    expr_runs (plain.bin op t a b) ty r l pc end after env values frame le typed ready s h next =
+        let c = two_ready (expr_derefs a) (expr_derefs b) (expr_calls a) (expr_calls b) ready in
+        let s1 = split code pc end (expr_code p types checks spots a r (l + 3)) _ s in
+        let s2 = split code s1.0 end (expr_code p types checks spots b (r + 2) (l + 3 + labels a)) (binary_code op t (held p types b) r l) s1.2 in
+        let second = second_of op t b typed.3 in
+        expr_runs a (int t) r (l + 3) pc s1.0 (λ x. value p types calls b (λ y. or_fault 3 (binary op t x y) after)) env values frame le typed.2 c.0 s1.1 h
+        (λ x env1 values1 frame1 h1. expr_runs b (int second.0) (r + 2) (l + 3 + labels a) s1.0 s2.0 (λ y. or_fault 3 (binary op t x y) after) env1 values1 frame1 (omega arith)
+        second.1 c.1 s2.1 h1.holds
+        (λ y env2 values2 frame2 h2.
+        binary_runs codes f rest labelled n p types spots base op t (held p types b) x y r l s2.0 end after env2 values values2 frame2 typed.1 le
+        (still base t x r (r + 2) values1 values2 le (omega arith) h2.keeps h1.is) (second.2 y values2 (r + 2) h2.is) s2.2 h2.holds
+        (keeps_on base r (r + 2) values values1 values2 (omega arith) h1.keeps h2.keeps)
+        (subst (λ u. Behind u r end values after) typed.0 next)))
+    expr_runs (plain.port_in port) ty r l pc end after env values frame le typed ready s h next =
+        wants codes n (action.In port) (λ x. after (pos x) env) _ (λ x. here (pc + 1) (put values r x) frame) (does codes f rest pc values frame (In r port) s.0)
+        (λ x lt. at_end codes f rest n (after (pos x) env) (pc + 1) end (put values r x) frame s.1
+        (subst (λ u. Behind u r end values after) typed.0 next (pos x) env (put values r x) frame (record {
+          holds = holds_put base p types spots env values frame r x le h;
+          keeps = keeps_put base r r x values values (omega arith) (keeps_refl base r values);
+          is = narrow_at codes f rest labelled n p types spots base U16 (pos x) r x values refl (word_number x lt) (low_word x lt);
+        })))
+    expr_runs (plain.port_out port e) ty r l pc end after env values frame le typed ready s h next =
+        let s1 = split code pc end (expr_code p types checks spots e r l) _ s in
+        expr_runs e (int U16) r l pc s1.0 (λ v. λ env1. Does (action.Out port (residue 16 v)) (after v env1)) env values frame le typed.2 ready s1.1 h
+        (λ v env1 values1 frame1 h1.
+        let is : values1 r ≡ low v = h1.is.low_half in
+        subst (λ z. Runs codes n (Does (action.Out port z) (after v env1)) (here s1.0 values1 frame1)) is
+        (acts_on codes n (action.Out port (values1 r)) (after v env1) _ (here (s1.0 + 1) values1 frame1) (does codes f rest s1.0 values1 frame1 (Out port r) s1.2.0)
+        (at_end codes f rest n (after v env1) (s1.0 + 1) end values1 frame1 s1.2.1
+        (subst (λ u. Behind u r end values after) typed.0 next v env1 values1 frame1 (record { holds = h1.holds; keeps = h1.keeps; is = tt })))))
+    expr_runs (plain.comma a b) ty r l pc end after env values frame le typed ready s h next =
+        let c = two_ready (expr_derefs a) (expr_derefs b) (expr_calls a) (expr_calls b) ready in
+        let s1 = split code pc end (expr_code p types checks spots a r l) (expr_code p types checks spots b r (l + labels a)) s in
+        expr_runs a typed.0.0 r l pc s1.0 (λ x. value p types calls b after) env values frame le typed.0.1 c.0 s1.1 h
+        (λ x env1 values1 frame1 h1. expr_runs b ty r (l + labels a) s1.0 end after env1 values1 frame1 le typed.1 c.1 s1.2 h1.holds
+        (λ y env2 values2 frame2 h2. next y env2 values2 frame2 (record {
+          holds = h2.holds;
+          keeps = keeps_on base r r values values1 values2 (omega arith) h1.keeps h2.keeps;
+          is = h2.is;
+        })))
+    expr_runs (plain.un un.IsZero t e) ty r l pc end after env values frame le typed ready s h next =
+        let s1 = split code pc end (expr_code p types checks spots e r (l + 2)) _ s in
+        expr_runs e (int t) r (l + 2) pc s1.0 (λ x. after (truth (is_zero x))) env values frame le typed.2 ready s1.1 h
+        (λ x env1 values1 frame1 h1. zero_truth_runs codes f rest labelled n p types spots base (is_wide t) t x r l s1.0 end after env1 values values1 frame1 le refl h1.is s1.2 h1.holds h1.keeps
+        (subst (λ u. Behind u r end values after) typed.0 next))
+    expr_runs (plain.un un.Neg t e) ty r l pc end after env values frame le typed ready s h next =
+        let s1 = split code pc end (expr_code p types checks spots e r (l + 2)) _ s in
+        expr_runs e (int t) r (l + 2) pc s1.0 (λ x. after (unary un.Neg t x)) env values frame le typed.2 ready s1.1 h
+        (λ x env1 values1 frame1 h1. negated_runs codes f rest labelled n p types spots base t x r l s1.0 end after env1 values values1 frame1 typed.1 le h1.is s1.2 h1.holds h1.keeps
+        (subst (λ u. Behind u r end values after) typed.0 next))
+    expr_runs (plain.un un.Not t e) ty r l pc end after env values frame le typed ready s h next =
+        let s1 = split code pc end (expr_code p types checks spots e r (l + 2)) _ s in
+        expr_runs e (int t) r (l + 2) pc s1.0 (λ x. after (unary un.Not t x)) env values frame le typed.2 ready s1.1 h
+        (λ x env1 values1 frame1 h1. turned_runs codes f rest labelled n p types spots base t x r l s1.0 end after env1 values values1 frame1 typed.1 le h1.is s1.2 h1.holds h1.keeps
+        (subst (λ u. Behind u r end values after) typed.0 next))
+    expr_runs (plain.post k) ty r l pc end after env values frame le typed ready s h next =
+        wants codes n (action.Post k) (λ x. after (wrapped U8 (pos x)) env) _ (λ x. here (pc + 1) (put values r x) frame) (does codes f rest pc values frame (Post k r) s.0)
+        (λ x lt. byte_runs codes f rest labelled n p types spots base (pos x) x r (pc + 1) end after env values (put values r x) frame le (put_same values r x) (low_byte x) s.1
+        (holds_put base p types spots env values frame r x le h) (keeps_put base r r x values values (omega arith) (keeps_refl base r values))
+        (subst (λ u. Behind u r end values after) typed.0 next))
+    expr_runs (plain.both a b) ty r l pc end after env values frame le typed ready s h next =
+        let c = two_ready (expr_derefs a) (expr_derefs b) (expr_calls a) (expr_calls b) ready in
+        let next_int : Behind (int I16) r end values after = subst (λ u. Behind u r end values after) typed.0 next in
+        let s1 = split code pc end (expr_code p types checks spots a r (l + 2)) _ s in
+        let s2 = split code s1.0 end (zero_code test.Eq (is_wide (held p types a)) r l) _ s1.2 in
+        let s3 = split code s2.0 end (expr_code p types checks spots b r (l + 2 + labels a)) _ s2.2 in
+        let s4 = split code s3.0 end (zero_code test.Eq (is_wide (held p types b)) r l) (Set r 1 ∷ Jump (l + 1) ∷ Label l ∷ Set r 0 ∷ Label (l + 1) ∷ []) s3.2 in
+        let to : ℕ = s4.0 + 1 + 1 in
+        let tail = s4.2.1.1 in
+        let ta = typed.1 in
+        let tb = typed.2 in
+        let second : Work ℤ = λ k. value p types calls b (λ y. k (truth (not (is_zero y)))) in
+        expr_runs a ta.0 r (l + 2) pc s1.0 (λ x. (if is_zero x then give (pos 0) else second) after) env values frame le ta.2 c.0 s1.1 h
+        (λ x env1 values1 frame1 h1.
+        let ha = as_number ta.0 x values1 r ta.1 h1.is in
+        let na = width_is a ta.0 ta.2 in
+        let wa : Bool = is_wide (held p types a) in
+        by_zero (is_zero x) x (give (pos 0)) second after env1 _ refl
+        (λ e. zero_test_runs codes f rest labelled n p types spots base wa true (number_of ta.0) x (after (pos 0) env1) r l s1.0 s2.0 to values1 frame1 na ha e s2.1 tail.0
+        (λ _. let sp = spare wa ta.0 r values x env1 values1 frame1 le h1 in
+        last_runs codes f rest labelled n p types spots base 0 l to end r (pos 0) after env1 values (tested wa values1 r) frame1 le refl refl tail sp.0 sp.1 next_int)
+        (λ q. absurd (cc)))
+        (λ e. zero_test_runs codes f rest labelled n p types spots base wa false (number_of ta.0) x (second after env1) r l s1.0 s2.0 to values1 frame1 na ha e s2.1 tail.0
+        (λ q. absurd (cc))
+        (λ _. let sp = spare wa ta.0 r values x env1 values1 frame1 le h1 in
+        expr_runs b tb.0 r (l + 2 + labels a) s2.0 s3.0 (λ y. after (truth (not (is_zero y)))) env1 (tested wa values1 r) frame1 le tb.2 c.1 s3.1 sp.0
+        (λ y env2 values2 frame2 h2.
+        let hb = as_number tb.0 y values2 r tb.1 h2.is in
+        let nb = width_is b tb.0 tb.2 in
+        let wb : Bool = is_wide (held p types b) in
+        let sq = spare wb tb.0 r (tested wa values1 r) y env2 values2 frame2 le h2 in
+        let kept = keeps_on base r r values (tested wa values1 r) (tested wb values2 r) (omega arith) sp.1 sq.1 in
+        by_truth (is_zero y) y after env2 _ refl
+        (λ e2. zero_test_runs codes f rest labelled n p types spots base wb true (number_of tb.0) y (after (pos 0) env2) r l s3.0 s4.0 to values2 frame2 nb hb e2 s4.1 tail.0
+        (λ _. last_runs codes f rest labelled n p types spots base 0 l to end r (pos 0) after env2 values (tested wb values2 r) frame2 le refl refl tail sq.0 kept next_int)
+        (λ q. absurd (cc)))
+        (λ e2. zero_test_runs codes f rest labelled n p types spots base wb false (number_of tb.0) y (after (pos 1) env2) r l s3.0 s4.0 to values2 frame2 nb hb e2 s4.1 tail.0
+        (λ q. absurd (cc))
+        (λ _. first_runs codes f rest labelled n p types spots base 1 0 l s4.0 end r (pos 1) after env2 values (tested wb values2 r) frame2 le refl refl s4.2 sq.0 kept next_int))))))
+    expr_runs (plain.convert t e) ty r l pc end after env values frame le typed ready s h next =
+        let s1 = split code pc end (expr_code p types checks spots e r (l + 1)) (convert_code (held p types e) t r l) s in
+        let from = typed.1 in
+        expr_runs e from.0 r (l + 1) pc s1.0 (λ x. after (wrapped t x)) env values frame le from.1.1 ready s1.1 h
+        (λ x env1 values1 frame1 h1.
+        let held1 = as_number from.0 x values1 r (converted_scalar t from.0 from.1.0) h1.is in
+        converted_runs codes f rest labelled n p types spots base t (held p types e) x r l s1.0 end after env1 values values1 frame1 le
+        (subst (λ u. IsHeld u x values1 r) (sym (held_is e from.0 from.1.1)) held1) s1.2 h1.holds h1.keeps
+        (subst (λ u. Behind u r end values after) typed.0 next))
+    expr_runs (plain.choice question a b) ty r l pc end after env values frame le typed ready s h next =
+        let c = two_ready (expr_derefs question ++ expr_derefs a) (expr_derefs b) (expr_calls question ++ expr_calls a) (expr_calls b) ready in
+        let d = two_ready (expr_derefs question) (expr_derefs a) (expr_calls question) (expr_calls a) c.0 in
+        let s1 = split code pc end (expr_code p types checks spots question r (l + 2)) _ s in
+        let s2 = split code s1.0 end (zero_code test.Eq (is_wide (held p types question)) r l) _ s1.2 in
+        let s3 = split code s2.0 end (expr_code p types checks spots a r (l + 2 + labels question)) (Jump (l + 1) ∷ Label l ∷ (expr_code p types checks spots b r (l + 2 + labels question + labels a) ++ Label (l + 1) ∷ [])) s2.2 in
+        let s4 = split code (s3.0 + 1 + 1) end (expr_code p types checks spots b r (l + 2 + labels question + labels a)) (Label (l + 1) ∷ []) s3.2.1.1 in
+        let tt0 = typed.0 in
+        expr_runs question tt0.0 r (l + 2) pc s1.0 (λ x. (if is_zero x then value p types calls b else value p types calls a) after) env values frame le tt0.2 d.0 s1.1 h
+        (λ x env1 values1 frame1 h1.
+        let ht = as_number tt0.0 x values1 r tt0.1 h1.is in
+        let nt = width_is question tt0.0 tt0.2 in
+        let wt : Bool = is_wide (held p types question) in
+        let sp = spare wt tt0.0 r values x env1 values1 frame1 le h1 in
+        let joined : (v : ℤ) (env2 : Locals) (values2 frame2 : ℕ → ℕ) → Stood ty r (tested wt values1 r) v env2 values2 frame2 → Runs codes n (after v env2) (here s4.0 values2 frame2) =
+        λ v env2 values2 frame2 h2. label_runs codes f rest labelled n p types spots base (after v env2) (l + 1) s4.0 values2 frame2 s4.2.0
+        (at_end codes f rest n (after v env2) (s4.0 + 1) end values2 frame2 s4.2.1
+        (next v env2 values2 frame2 (record { holds = h2.holds; keeps = keeps_on base r r values (tested wt values1 r) values2 (omega arith) sp.1 h2.keeps; is = h2.is }))) in
+        by_zero (is_zero x) x (value p types calls b) (value p types calls a) after env1 _ refl
+        (λ e. zero_test_runs codes f rest labelled n p types spots base wt true (number_of tt0.0) x (value p types calls b after env1) r l s1.0 s2.0 (s3.0 + 1) values1 frame1 nt ht e s2.1 s3.2.1.0
+        (λ _. label_runs codes f rest labelled n p types spots base (value p types calls b after env1) l (s3.0 + 1) (tested wt values1 r) frame1 s3.2.1.0
+        (expr_runs b ty r (l + 2 + labels question + labels a) (s3.0 + 1 + 1) s4.0 after env1 (tested wt values1 r) frame1 le typed.2 c.1 s4.1 sp.0 joined))
+        (λ q. absurd (cc)))
+        (λ e. zero_test_runs codes f rest labelled n p types spots base wt false (number_of tt0.0) x (value p types calls a after env1) r l s1.0 s2.0 (s3.0 + 1) values1 frame1 nt ht e s2.1 s3.2.1.0
+        (λ q. absurd (cc))
+        (λ _. expr_runs a ty r (l + 2 + labels question) s2.0 s3.0 after env1 (tested wt values1 r) frame1 le typed.1 d.1 s3.1 sp.0
+        (λ v env2 values2 frame2 h2. jump_runs codes f rest labelled n (after v env2) (l + 1) s3.0 s4.0 values2 frame2 s3.2.0 s4.2.0 (joined v env2 values2 frame2 h2)))))
+    expr_runs (plain.either a b) ty r l pc end after env values frame le typed ready s h next =
+        let c = two_ready (expr_derefs a) (expr_derefs b) (expr_calls a) (expr_calls b) ready in
+        let next_int : Behind (int I16) r end values after = subst (λ u. Behind u r end values after) typed.0 next in
+        let s1 = split code pc end (expr_code p types checks spots a r (l + 2)) _ s in
+        let s2 = split code s1.0 end (zero_code test.Ne (is_wide (held p types a)) r l) _ s1.2 in
+        let s3 = split code s2.0 end (expr_code p types checks spots b r (l + 2 + labels a)) _ s2.2 in
+        let s4 = split code s3.0 end (zero_code test.Ne (is_wide (held p types b)) r l) (truth_code r l) s3.2 in
+        let to : ℕ = s4.0 + 1 + 1 in
+        let tail = s4.2.1.1 in
+        let ta = typed.1 in
+        let tb = typed.2 in
+        let second : Work ℤ = λ k. value p types calls b (λ y. k (truth (not (is_zero y)))) in
+        expr_runs a ta.0 r (l + 2) pc s1.0 (λ x. (if is_zero x then second else give (pos 1)) after) env values frame le ta.2 c.0 s1.1 h
+        (λ x env1 values1 frame1 h1.
+        let ha = as_number ta.0 x values1 r ta.1 h1.is in
+        let na = width_is a ta.0 ta.2 in
+        let wa : Bool = is_wide (held p types a) in
+        let sp = spare wa ta.0 r values x env1 values1 frame1 le h1 in
+        by_zero (is_zero x) x second (give (pos 1)) after env1 _ refl
+        (λ e. non_zero_test_runs codes f rest labelled n p types spots base wa false (number_of ta.0) x (second after env1) r l s1.0 s2.0 to values1 frame1 na ha (ap not e) s2.1 tail.0
+        (λ q. absurd (cc))
+        (λ _. expr_runs b tb.0 r (l + 2 + labels a) s2.0 s3.0 (λ y. after (truth (not (is_zero y)))) env1 (tested wa values1 r) frame1 le tb.2 c.1 s3.1 sp.0
+        (λ y env2 values2 frame2 h2.
+        let hb = as_number tb.0 y values2 r tb.1 h2.is in
+        let nb = width_is b tb.0 tb.2 in
+        let wb : Bool = is_wide (held p types b) in
+        let sq = spare wb tb.0 r (tested wa values1 r) y env2 values2 frame2 le h2 in
+        let kept = keeps_on base r r values (tested wa values1 r) (tested wb values2 r) (omega arith) sp.1 sq.1 in
+        by_truth (is_zero y) y after env2 _ refl
+        (λ e2. non_zero_test_runs codes f rest labelled n p types spots base wb false (number_of tb.0) y (after (pos 0) env2) r l s3.0 s4.0 to values2 frame2 nb hb (ap not e2) s4.1 tail.0
+        (λ q. absurd (cc))
+        (λ _. first_runs codes f rest labelled n p types spots base 0 1 l s4.0 end r (pos 0) after env2 values (tested wb values2 r) frame2 le refl refl s4.2 sq.0 kept next_int))
+        (λ e2. non_zero_test_runs codes f rest labelled n p types spots base wb true (number_of tb.0) y (after (pos 1) env2) r l s3.0 s4.0 to values2 frame2 nb hb (ap not e2) s4.1 tail.0
+        (λ _. last_runs codes f rest labelled n p types spots base 1 l to end r (pos 1) after env2 values (tested wb values2 r) frame2 le refl refl tail sq.0 kept next_int)
+        (λ q. absurd (cc))))))
+        (λ e. non_zero_test_runs codes f rest labelled n p types spots base wa true (number_of ta.0) x (after (pos 1) env1) r l s1.0 s2.0 to values1 frame1 na ha (ap not e) s2.1 tail.0
+        (λ _. last_runs codes f rest labelled n p types spots base 1 l to end r (pos 1) after env1 values (tested wa values1 r) frame1 le refl refl tail sp.0 sp.1 next_int)
+        (λ q. absurd (cc))))
+    expr_runs (plain.read place at) ty r l pc end after env values frame le typed ready s h next =
+        let of : Ty = place_type p types place in
+        let s1 = split code pc end (place_code p types checks spots place r l) (fetch_code (kind_at place) (number_of of) r r) s in
+        place_runs place r l pc s1.0 (λ w. load of w after) env values frame le typed.2 ready s1.1 h
+        (λ w env1 values1 frame1 h1. fetched_runs codes f rest labelled n p types spots base (kind_at place) of w r r s1.0 end after env1 values values1 frame1
+        (subst IsScalar typed.0 typed.1) fits.lie le (omega arith) h1.found s1.2 h1.holds h1.keeps (subst (λ u. Behind u r end values after) typed.0 next))
+    expr_runs (plain.addr place) ty r l pc end after env values frame le typed ready s h next =
+        let of : Ty = place_type p types place in
+        let s1 = split code pc end (place_code p types checks spots place r l) (address_code (kind_at place) r) s in
+        place_runs place r l pc s1.0 (λ w. after (pos (address_of w))) env values frame le typed.2 ready s1.1 h
+        (λ w env1 values1 frame1 h1. address_runs codes f rest labelled n p types spots base (kind_at place) of w of r s1.0 end after env1 values values1 frame1 le h1.found s1.2 h1.holds h1.keeps
+        (subst (λ u. Behind u r end values after) typed.0 next))
+    expr_runs (plain.offset a b size) ty r l pc end after env values frame le typed ready s h next =
+        let c = two_ready (expr_derefs a) (expr_derefs b) (expr_calls a) (expr_calls b) ready in
+        let t = typed.2 in
+        let s1 = split code pc end (expr_code p types checks spots a r l) _ s in
+        let s2 = split code s1.0 end (expr_code p types checks spots b (r + 2) (l + labels a)) (offset_code size r) s1.2 in
+        let z : ℤ → ℤ → ℤ = λ x y. wrapped U16 (x +ℤ y *ℤ pos size) in
+        expr_runs a ty r l pc s1.0 (λ x. value p types calls b (λ y. after (z x y))) env values frame le typed.1 c.0 s1.1 h
+        (λ x env1 values1 frame1 h1. expr_runs b (int t.0) (r + 2) (l + labels a) s1.0 s2.0 (λ y. after (z x y)) env1 values1 frame1 (omega arith) t.1 c.1 s2.1 h1.holds
+        (λ y env2 values2 frame2 h2.
+        offset_runs codes f rest labelled n p types spots base x y t.0 size r s2.0 end (after (z x y) env2) env2 values values2 frame2 le
+        (still base U16 x r (r + 2) values1 values2 le (omega arith) h2.keeps (stepped_held p.structs size ty x values1 r typed.0 h1.is)) h2.is s2.2 h2.holds
+        (keeps_on base r (r + 2) values values1 values2 (omega arith) h1.keeps h2.keeps)
+        (λ values3 frame3 h3 k3 held3. next (z x y) env2 values3 frame3 (record { holds = h3; keeps = k3; is = stepped_result p.structs size ty (z x y) values3 r typed.0 held3 }))))
+    expr_runs (plain.distance a b size) ty r l pc end after env values frame le typed ready s h next =
+        let c = two_ready (expr_derefs a) (expr_derefs b) (expr_calls a) (expr_calls b) ready in
+        let of = typed.1 in
+        let few = step_small p.structs size of.0 of.1.0 in
+        let s1 = split code pc end (expr_code p types checks spots a r l) _ s in
+        let s2 = split code s1.0 end (expr_code p types checks spots b (r + 2) (l + labels a)) (distance_code size r) s1.2 in
+        let z : ℤ → ℤ → ℤ = λ x y. int_div (wrapped I16 (x -ℤ y)) (pos size) in
+        let next_int : Behind (int I16) r end values after = subst (λ u. Behind u r end values after) typed.0 next in
+        expr_runs a of.0 r l pc s1.0 (λ x. value p types calls b (λ y. after (z x y))) env values frame le of.1.1 c.0 s1.1 h
+        (λ x env1 values1 frame1 h1. expr_runs b of.0 (r + 2) (l + labels a) s1.0 s2.0 (λ y. after (z x y)) env1 values1 frame1 (omega arith) of.1.2 c.1 s2.1 h1.holds
+        (λ y env2 values2 frame2 h2.
+        distance_runs codes f rest labelled n p types spots base x y size r s2.0 end (after (z x y) env2) env2 values values2 frame2 le few.0 few.1
+        (still base U16 x r (r + 2) values1 values2 le (omega arith) h2.keeps (stepped_held p.structs size of.0 x values1 r of.1.0 h1.is))
+        (stepped_held p.structs size of.0 y values2 (r + 2) of.1.0 h2.is) s2.2 h2.holds
+        (keeps_on base r (r + 2) values values1 values2 (omega arith) h1.keeps h2.keeps)
+        (λ values3 frame3 h3 k3 held3. next_int (z x y) env2 values3 frame3 (record { holds = h3; keeps = k3; is = held3 }))))
+    expr_runs (plain.assign place e at) ty r l pc end after env values frame le typed ready s h next =
+        let of : Ty = place_type p types place in
+        let t : IntType = number_of of in
+        let scalar = subst IsScalar typed.0 typed.1 in
+        let c = two_ready (place_derefs place) (expr_derefs e) (place_calls place) (expr_calls e) ready in
+        let s1 = split code pc end (place_code p types checks spots place r l) _ s in
+        let s2 = split code s1.0 end (expr_code p types checks spots e (r + 2) (l + place_labels place)) _ s1.2 in
+        let s3 = split code s2.0 end (put_code (kind_at place) t (r + 2) r) (move_code (is_wide t) r (r + 2)) s2.2 in
+        place_runs place r l pc s1.0 (λ w. value p types calls e (λ v. store of w v (λ _. after v))) env values frame le typed.2 c.0 s1.1 h
+        (λ w env1 values1 frame1 h1. expr_runs e of (r + 2) (l + place_labels place) s1.0 s2.0 (λ v. store of w v (λ _. after v)) env1 values1 frame1 (omega arith)
+        (subst (λ u. Has p types e u) typed.0 typed.3) c.1 s2.1 h1.holds
+        (λ v env2 values2 frame2 h2.
+        let number = as_number of v values2 (r + 2) scalar h2.is in
+        written_runs codes f rest labelled n p types spots base (kind_at place) of w v (r + 2) r s2.0 s3.0 (after v) env2 values values2 frame2 scalar fits.lie le (omega arith)
+        (found_still p types spots (kind_at place) of w values1 values2 r (h2.keeps.at r le (omega arith)) h1.found) number s3.1 h2.holds
+        (keeps_on base r (r + 2) values values1 values2 (omega arith) h1.keeps h2.keeps)
+        (λ env3 values3 frame3 h3 k3 far.
+        moved_runs codes f rest labelled n p types spots base (is_wide t) t v r (r + 2) s3.0 end (after v env3) env3 values values3 frame3 refl le (λ e. omega (arith, e))
+        (held_there t v values2 values3 (r + 2) (far (r + 2) (omega arith)) (far (r + 2 + 1) (omega arith)) number) s3.2 h3 k3
+        (λ values4 h4 k4 held4 _. subst (λ u. Behind u r end values after) typed.0 next v env3 values4 frame3 (record { holds = h4; keeps = k4; is = as_result of v values4 r scalar held4 })))))
+    expr_runs (plain.update place op t e gives_old at) ty r l pc end after env values frame le typed ready s h next =
+        let of : Ty = place_type p types place in
+        let nt : IntType = number_of of in
+        let updated = subst (IsUpdated op t) typed.0 typed.1 in
+        let scalar = updated_scalar op t of updated in
+        let promoted = updated_promoted op t of updated in
+        let second = second_of op t e typed.3 in
+        let se : IntType = held p types e in
+        let same : se ≡ second.0 = held_is e (int second.0) second.1 in
+        let c = two_ready (place_derefs place) (expr_derefs e) (place_calls place) (expr_calls e) ready in
+        let s1 = split code pc end (place_code p types checks spots place r (l + 5)) _ s in
+        let s2 = split code s1.0 end (fetch_code (kind_at place) nt (r + 2) r) _ s1.2 in
+        let s3 = split code s2.0 end (expr_code p types checks spots e (r + 4) (l + 5 + place_labels place)) _ s2.2 in
+        let s4 = split code s3.0 end (move_code (is_wide nt) (r + 6) (r + 2)) _ s3.2 in
+        let s5 = split code s4.0 end (convert_code nt t (r + 6) l) _ s4.2 in
+        let s6 = split code s5.0 end (move_code (is_wide se) (r + 8) (r + 4)) _ s5.2 in
+        let s7 = split code s6.0 end (binary_code op t se (r + 6) (l + 1)) _ s6.2 in
+        let s8 = split code s7.0 end (convert_code t nt (r + 6) (l + 4)) _ s7.2 in
+        let s9 = split code s8.0 end (put_code (kind_at place) nt (r + 6) r) (move_code (is_wide nt) r (if gives_old then r + 2 else r + 6)) s8.2 in
+        let last : ℤ → ℤ → Locals → Behaviour = λ old z. after (if gives_old then old else wrapped nt z) in
+        let kept : Where → ℤ → ℤ → Locals → Behaviour = λ w old z. store of w (wrapped nt z) (λ _. last old z) in
+        let operated : Where → ℤ → ℤ → ℤ → Locals → Behaviour = λ w old y x. or_fault 3 (binary op t x y) (kept w old) in
+        place_runs place r (l + 5) pc s1.0 (λ w. load of w (λ old. value p types calls e (λ y. operated w old y (wrapped t old)))) env values frame le typed.2 c.0 s1.1 h
+        (λ w env1 values1 frame1 h1.
+        fetched_runs codes f rest labelled n p types spots base (kind_at place) of w (r + 2) r s1.0 s2.0 (λ old. value p types calls e (λ y. operated w old y (wrapped t old))) env1 values1 values1 frame1
+        scalar fits.lie (omega arith) (omega arith) h1.found s2.1 h1.holds (keeps_refl base (r + 2) values1)
+        (λ old env2 values2 frame2 h2.
+        let old2 = as_number of old values2 (r + 2) scalar h2.is in
+        expr_runs e (int second.0) (r + 4) (l + 5 + place_labels place) s2.0 s3.0 (λ y. operated w old y (wrapped t old)) env2 values2 frame2 (omega arith) second.1 c.1 s3.1 h2.holds
+        (λ y env3 values3 frame3 h3.
+        let old3 = still base nt old (r + 2) (r + 4) values2 values3 (omega arith) (omega arith) h3.keeps old2 in
+        moved_runs codes f rest labelled n p types spots base (is_wide nt) nt old (r + 6) (r + 2) s3.0 s4.0 (operated w old y (wrapped t old) env3) env3 values3 values3 frame3 refl (omega arith) (λ e. omega (arith, e)) old3 s4.1
+        h3.holds (keeps_refl base (r + 6) values3)
+        (λ values4 h4 k4 old4 _.
+        converted_runs codes f rest labelled n p types spots base t nt old (r + 6) l s4.0 s5.0 (operated w old y) env3 values3 values4 frame3 (omega arith) old4 s5.1 h4 k4
+        (λ x env5 values5 frame5 h5.
+        let y5 : IsHeld se y values5 (r + 4) = still base se y (r + 4) (r + 6) values3 values5 (omega arith) (omega arith) h5.keeps (subst (λ u. IsHeld u y values3 (r + 4)) (sym same) h3.is) in
+        moved_runs codes f rest labelled n p types spots base (is_wide se) se y (r + 8) (r + 4) s5.0 s6.0 (operated w old y x env5) env5 values5 values5 frame5 refl (omega arith) (λ e. omega (arith, e)) y5 s6.1
+        h5.holds (keeps_refl base (r + 8) values5)
+        (λ values6 h6 k6 y6 _.
+        let eight : r + 8 ≡ r + 6 + 2 = omega arith in
+        let y6_second : IsHeld second.0 y values6 (r + 6 + 2) = subst (λ u. IsHeld second.0 y values6 u) eight (subst (λ u. IsHeld u y values6 (r + 8)) same y6) in
+        binary_runs codes f rest labelled n p types spots base op t se x y (r + 6) (l + 1) s6.0 s7.0 (kept w old) env5 values6 values6 frame5 promoted (omega arith)
+        (still base t x (r + 6) (r + 8) values5 values6 (omega arith) (omega arith) k6 h5.is) (second.2 y values6 (r + 6 + 2) y6_second) s7.1 h6 (keeps_refl base (r + 6) values6)
+        (λ z env7 values7 frame7 h7.
+        let z7 : IsHeld t z values7 (r + 6) = subst (λ u. IsHeld u z values7 (r + 6)) (updated_type op t (updates_of op t of updated)) h7.is in
+        converted_runs codes f rest labelled n p types spots base nt t z (r + 6) (l + 4) s7.0 s8.0 (λ v. store of w v (λ _. after (if gives_old then old else v))) env7 values7 values7 frame7 (omega arith) z7 s8.1 h7.holds (keeps_refl base (r + 6) values7)
+        (λ v env8 values8 frame8 h8.
+        let after_place : Keeps base (r + 2) values1 values8 =
+        keeps_on base (r + 2) (r + 6) values1 values7 values8 (omega arith) (keeps_on base (r + 2) (r + 6) values1 values6 values7 (omega arith) (keeps_on base (r + 2) (r + 8) values1 values5 values6 (omega arith)
+        (keeps_on base (r + 2) (r + 6) values1 values3 values5 (omega arith) (keeps_on base (r + 2) (r + 4) values1 values2 values3 (omega arith) h2.keeps h3.keeps) h5.keeps) k6) h7.keeps) h8.keeps in
+        let after_old : Keeps base (r + 4) values3 values8 =
+        keeps_on base (r + 4) (r + 6) values3 values7 values8 (omega arith) (keeps_on base (r + 4) (r + 6) values3 values6 values7 (omega arith) (keeps_on base (r + 4) (r + 8) values3 values5 values6 (omega arith)
+        (keeps_on base (r + 4) (r + 6) values3 values3 values5 (omega arith) (keeps_refl base (r + 4) values3) h5.keeps) k6) h7.keeps) h8.keeps in
+        let old8 = still base nt old (r + 2) (r + 4) values3 values8 (omega arith) (omega arith) after_old old3 in
+        written_runs codes f rest labelled n p types spots base (kind_at place) of w v (r + 6) r s8.0 s9.0 (after (if gives_old then old else v)) env8 values values8 frame8 scalar fits.lie le (omega arith)
+        (found_still p types spots (kind_at place) of w values1 values8 r (after_place.at r le (omega arith)) h1.found) h8.is s9.1 h8.holds
+        (keeps_on base r (r + 2) values values1 values8 (omega arith) h1.keeps after_place)
+        (λ env9 values9 frame9 h9 k9 far.
+        update_gives gives_old of old v r s9.0 end after env9 values values9 frame9 le scalar
+        (held_there nt old values8 values9 (r + 2) (far (r + 2) (omega arith)) (far (r + 2 + 1) (omega arith)) old8)
+        (held_there nt v values8 values9 (r + 6) (far (r + 6) (omega arith)) (far (r + 6 + 1) (omega arith)) h8.is) s9.2 h9 k9
+        (subst (λ u. Behind u r end values after) typed.0 next))))))))))
+    expr_runs (plain.call g arguments at) ty r l pc end after env values frame le typed ready s h next =
+        let b = callable_body (slice_get p.bodies g) (AllHave p types arguments) ty typed in
+        let formed = body_formed p g b.0 fits.formed b.1 in
+        let lower = All-head (λ k. rank k < below) g (exprs_calls arguments) ready.lower in
+        let inner : Ready (exprs_derefs arguments) (exprs_calls arguments) = record { checked = ready.checked; lower = All-tail (λ k. rank k < below) g (exprs_calls arguments) ready.lower } in
+        let ins : List ℕ = passed_at p types checks spots arguments r in
+        let s1 = split code pc end (args_code p types checks spots arguments r l) (Tick ∷ Call g ins (taken_at (result_of (slice_get p.bodies g)) r) ∷ Tick ∷ []) s in
+        let s2 = subst (λ o. Stands code s1.0 (Tick ∷ Call g ins (taken_at (result_of o) r) ∷ Tick ∷ []) end) b.1 s1.2 in
+        args_runs arguments (take b.0.params b.0.locals) r l pc s1.0 (λ vs env1. Does action.Tick (calls g vs (λ v. Does action.Tick (after v env1)))) env values frame le b.3 formed.passed inner s1.1 h
+        (λ vs env1 values1 frame1 h1.
+        call_runs codes f rest labelled n p types spots base rank below calls calls_run g b.0 vs ins r s1.0 end after env1 values values1 frame1 le b.1 formed lower h1.of h1.pass s2 h1.holds h1.keeps
+        (subst (λ u. Behind u r end values after) b.2 next))

@@ -35,7 +35,7 @@ use Rattle.lower_expr.proofs.Wide.{bin_runs, high_of, wide_is}
 use Rattle.lower_expr.proofs.Pieces.{Next, at_here, label_runs, narrow_at, set_runs}
 
 -- the values of a number that is held are its halves
-held_halves : (wide : Bool) (v : ℤ) (values : ℕ → ℕ) (r : ℕ) → values r ≡ low v → IsHighHeld wide v values (r + 1) → map values (values_at wide r) ≡ halves_of wide v
+pub held_halves : (wide : Bool) (v : ℤ) (values : ℕ → ℕ) (r : ℕ) → values r ≡ low v → IsHighHeld wide v values (r + 1) → map values (values_at wide r) ≡ halves_of wide v
 held_halves true v values r l h = ap (λ m. m ∷ values (r + 1) ∷ []) l ∙ ap (λ m. low v ∷ m ∷ []) h
 held_halves false v values r l h = ap (λ m. m ∷ []) l
 

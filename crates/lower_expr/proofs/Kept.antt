@@ -1,5 +1,5 @@
 -- A number is written to a local that is in values.
-use Rattle.std.proofs.Common.{◌≡◌, ◌≢◌, ℕ, ◌+◌, ◌-◌, ◌*◌, ◌/◌, ◌%◌, ◌<◌, ◌≤◌, Bool, true, false, List, [], ◌∷◌, ◌++◌, length, Option, Some, None, refl, sym, ap, ◌∙◌, subst, ⊎_elim, arith, get_or-set_same, get_or-set_other}
+use Rattle.std.proofs.Common.{◌≡◌, ◌≢◌, ℕ, ◌+◌, ◌-◌, ◌*◌, ◌/◌, ◌%◌, ◌<◌, ◌≤◌, Bool, true, false, List, [], ◌∷◌, length, Option, Some, None, refl, sym, ap, ◌∙◌, subst, ⊎_elim, arith, get_or-set_same, get_or-set_other}
 use Rattle.std.specs.Prelude.{ℤ, pos, negsuc, slice_get, slice_index, slice_index_or, slice_set}
 use Rattle.std.proofs.lemmas.List.{length-set, set-set}
 use Rattle.std.proofs.lemmas.Bool.Decides.{eqb_tells}
@@ -8,6 +8,7 @@ use Rattle.nm_base.specs.declared.int_type.IntType.TheVariants.{I8, U8, I16, U16
 use Rattle.nm_base.specs.IntType.{wrapped, signed_part}
 use Rattle.nm_base.specs.Behaviour.{Behaviour}
 use Rattle.nesc_core.specs.Plain.{Ty, void, int, pointer, array, struct, Program}
+use Rattle.nesc_core.specs.Typing.{IsScalar}
 use Rattle.core_meaning.specs.Numbers.{residue}
 use Rattle.core_meaning.specs.Layout.{size_of}
 use Rattle.core_meaning.specs.Work.{Locals, number_of, store}
@@ -26,15 +27,13 @@ use Rattle.lower_expr.specs.declared.spot.Spot.{Spot}
 use Rattle.lower_expr.specs.declared.spot.Spot.TheVariants.{Values, Frame}
 use Rattle.lower_expr.specs.Held.{IsHeld, IsHighHeld, high, low}
 use Rattle.lower_expr.specs.Runs.{Keeps}
-use Rattle.lower_expr.specs.Locals.{HasBytes, Holds, InRegs, IsHighBelow, IsResult, LocalIsHeld, local_value, value_at}
-use Rattle.lower_expr.specs.Code.{kind_of_spot, local_code, put_code, value_named}
-use Rattle.lower_expr.specs.Covered.{IsInValues, IsNumberSized}
-use Rattle.lower_expr.specs.Pieces.{move_code}
-use Rattle.lower_expr.proofs.Values.{keeps_below, keeps_put, holds_put}
+use Rattle.lower_expr.specs.Locals.{HasBytes, Holds, InRegs, IsHighBelow, LocalIsHeld, local_value, value_at}
+use Rattle.lower_expr.specs.Code.{keep_code, value_named}
+use Rattle.lower_expr.proofs.Values.{keeps_below}
 use Rattle.lower_expr.proofs.Numbers.{Is32Bits, low_small, rest_small, number_of_low}
 use Rattle.lower_expr.proofs.Halves.{number_of_rest}
-use Rattle.lower_expr.proofs.Wide.{high_of, is_wide_of, wide_at}
-use Rattle.lower_expr.proofs.Pieces.{Next, at_here, narrow_at}
+use Rattle.lower_expr.proofs.Wide.{high_of, is_wide_of}
+use Rattle.lower_expr.proofs.Pieces.{at_here}
 
 module _ (p : Program) (types : List Ty) (spots : List Spot) (base : ℕ) where
   abbrev type_of : ℕ → Ty
@@ -94,7 +93,7 @@ IsByte I8 = Unit {0}
 IsByte U8 = Unit {0}
 IsByte _ = ⊥
 
-number_of_byte : (t : IntType) → IsByte t → (v : ℤ) → wrapped t v ≡ v → wrapped t (pos (residue 8 v)) ≡ v
+pub number_of_byte : (t : IntType) → IsByte t → (v : ℤ) → wrapped t v ≡ v → wrapped t (pos (residue 8 v)) ≡ v
 number_of_byte I8 ok (pos a) e = ap (λ m. signed_part m (pos 128)) (ap pos (let h : a % 256 % 256 ≡ a % 256 = omega arith in h)) ∙ e
 number_of_byte I8 ok (negsuc a) e = ap (λ m. signed_part m (pos 128)) (ap pos (let h : (256 - 1 - a % 256) % 256 ≡ 256 - 1 - a % 256 = omega arith in h)) ∙ e
 number_of_byte U8 ok (pos a) e = ap pos (let h : a % 256 % 256 ≡ a % 256 = omega arith in h) ∙ e
@@ -104,20 +103,20 @@ number_of_byte U16 ok v e = absurd ok
 number_of_byte I32 ok v e = absurd ok
 number_of_byte U32 ok v e = absurd ok
 
-byte_small : (v : ℤ) → residue 8 v < 256
+pub byte_small : (v : ℤ) → residue 8 v < 256
 byte_small (pos a) = omega arith
 byte_small (negsuc a) = omega arith
 
-abbrev one_byte : List ℕ → ℕ → List ℕ
+abbrev pub one_byte : List ℕ → ℕ → List ℕ
 one_byte l n = slice_set l 0 n
 
-abbrev two_bytes : List ℕ → ℕ → List ℕ
+abbrev pub two_bytes : List ℕ → ℕ → List ℕ
 two_bytes l n = slice_set (slice_set l 0 (n % 256)) 1 (n / 256)
 
-byte_in : (l : List ℕ) (n : ℕ) → length l ≡ 1 → slice_index (one_byte l n) 0 ≡ n
+pub byte_in : (l : List ℕ) (n : ℕ) → length l ≡ 1 → slice_index (one_byte l n) 0 ≡ n
 byte_in l n e = get_or-set_same l 0 n 0 (omega (arith, e))
 
-word_in : (l : List ℕ) (n : ℕ) → length l ≡ 2 → slice_index (two_bytes l n) 0 + 256 * slice_index (two_bytes l n) 1 ≡ n
+pub word_in : (l : List ℕ) (n : ℕ) → length l ≡ 2 → slice_index (two_bytes l n) 0 + 256 * slice_index (two_bytes l n) 1 ≡ n
 word_in l n e =
     let longer = length-set l 0 (n % 256) in
     let first : slice_index (two_bytes l n) 0 ≡ n % 256 =
@@ -126,7 +125,7 @@ word_in l n e =
     omega (arith, first, second)
 
 -- one byte is written
-bytes_set : (size : ℕ) (l : List ℕ) (o n : ℕ) → n < 256 → HasBytes size l → HasBytes size (slice_set l o n)
+pub bytes_set : (size : ℕ) (l : List ℕ) (o n : ℕ) → n < 256 → HasBytes size l → HasBytes size (slice_set l o n)
 bytes_set size l o n lt h =
     let count = h.length_is in
     record {
@@ -137,13 +136,13 @@ bytes_set size l o n lt h =
           (eqb_tells i o);
     }
 
-word_set : (size : ℕ) (l : List ℕ) (n : ℕ) → n < 65536 → HasBytes size l → HasBytes size (two_bytes l n)
+pub word_set : (size : ℕ) (l : List ℕ) (n : ℕ) → n < 65536 → HasBytes size l → HasBytes size (two_bytes l n)
 word_set size l n lt h = bytes_set size (slice_set l 0 (n % 256)) 1 (n / 256) (omega (arith, lt)) (bytes_set size l 0 (n % 256) (omega arith) h)
 
-abbrev four_bytes : List ℕ → ℕ → List ℕ
+abbrev pub four_bytes : List ℕ → ℕ → List ℕ
 four_bytes l n = slice_set (slice_set (two_bytes l (n % 65536)) 2 (n / 65536 % 256)) 3 (n / 65536 / 256)
 
-long_in : (l : List ℕ) (n : ℕ) → length l ≡ 4 →
+pub long_in : (l : List ℕ) (n : ℕ) → length l ≡ 4 →
     slice_index (four_bytes l n) 0 + 256 * slice_index (four_bytes l n) 1 + 65536 * (slice_index (four_bytes l n) 2 + 256 * slice_index (four_bytes l n) 3) ≡ n
 long_in l n e =
     let a : ℕ = n % 65536 in
@@ -163,13 +162,13 @@ long_in l n e =
     let s3 : slice_index (four_bytes l n) 3 ≡ b / 256 = get_or-set_same l3 3 (b / 256) 0 (omega (arith, e3)) in
     omega (arith, s0, s1, s2, s3)
 
-long_set : (size : ℕ) (l : List ℕ) (n : ℕ) → n < 4294967296 → HasBytes size l → HasBytes size (four_bytes l n)
+pub long_set : (size : ℕ) (l : List ℕ) (n : ℕ) → n < 4294967296 → HasBytes size l → HasBytes size (four_bytes l n)
 long_set size l n lt h =
     bytes_set size (slice_set (two_bytes l (n % 65536)) 2 (n / 65536 % 256)) 3 (n / 65536 / 256) (omega (arith, lt))
     (bytes_set size (two_bytes l (n % 65536)) 2 (n / 65536 % 256) (omega arith) (word_set size l (n % 65536) (omega arith) h))
 
 -- the two accesses of a number of 32 bits write its four bytes
-written_twice : (env : Locals) (y : ℕ) (n : ℕ) → y < length env →
+pub written_twice : (env : Locals) (y : ℕ) (n : ℕ) → y < length env →
     slice_set (slice_set env y (two_bytes (slice_index_or env y []) (n % 65536))) y
     (slice_set (slice_set (slice_index_or (slice_set env y (two_bytes (slice_index_or env y []) (n % 65536))) y []) 2 (n / 65536 % 256)) 3 (n / 65536 / 256))
     ≡ slice_set env y (four_bytes (slice_index_or env y []) n)
@@ -186,26 +185,26 @@ module _ (codes : MidCode) (f : ℕ) (rest : List Activation) (labels : IsLabell
   abbrev here : ℕ → (ℕ → ℕ) → (ℕ → ℕ) → List Activation
   here pc values frame = at_here codes f rest labels n p types spots base pc values frame
 
-  abbrev Behind : Ty → (r end : ℕ) → (ℕ → ℕ) → (ℤ → Locals → Behaviour) → Type 0
-  Behind ty r end old after = Next codes f rest labels n p types spots base ty r end old after
+  -- what goes on at a place, where a number was written and the values from r + 2 on are as they were
+  abbrev pub Written : (r mid : ℕ) → (first old : ℕ → ℕ) → (Locals → Behaviour) → Type 0
+  Written r mid first old b = (env : Locals) (new frame : ℕ → ℕ) → Holds p types spots base env new frame → Keeps base r first new →
+      ((i : ℕ) → r + 2 ≤ i → new i ≡ old i) → Runs codes n (b env) (here mid new frame)
 
-  -- of one value
-  short_kept_runs : (ty : Ty) (y : ℕ) (regs : Regs) (bytes : List ℕ) (v : ℤ) (r pc end : ℕ) (after : ℤ → Locals → Behaviour) (env : Locals) (first values frame : ℕ → ℕ) →
-      ((new : ℕ → ℕ) (at : ℕ) → IsHeld (number_of ty) v new at → IsResult ty v new at) → is_wide (number_of ty) ≡ false → slice_get spots y ≡ Some (Values regs) → type_of p types spots base y ≡ ty → y < length types → base ≤ r →
-      HasBytes (size_of p ty) bytes → local_value (number_of ty) bytes ≡ v → InRegs base (number_of ty) (local_value (number_of ty) (slice_index_or env y [])) values regs → IsHeld (number_of ty) v values (r + 2) →
-      Stands code pc (Move (value_named regs.low) (r + 2) ∷ Move r (r + 2) ∷ []) end → Holds p types spots base env values frame → Keeps base r first values → Behind ty r end first after →
-      Runs codes n (after v (slice_set env y bytes)) (here pc values frame)
-  short_kept_runs ty y regs bytes v r pc end after env first values frame result narrow spot_is type_is inside le sized is in_regs held s h k next =
+  -- of one value, which stands at v
+  short_kept_runs : (ty : Ty) (y : ℕ) (regs : Regs) (bytes : List ℕ) (z : ℤ) (v r pc mid : ℕ) (b : Locals → Behaviour) (env : Locals) (first values frame : ℕ → ℕ) →
+      is_wide (number_of ty) ≡ false → slice_get spots y ≡ Some (Values regs) → type_of p types spots base y ≡ ty → y < length types → base ≤ r →
+      HasBytes (size_of p ty) bytes → local_value (number_of ty) bytes ≡ z → InRegs base (number_of ty) (local_value (number_of ty) (slice_index_or env y [])) values regs → values v ≡ low z →
+      Stands code pc (Move (value_named regs.low) v ∷ []) mid → Holds p types spots base env values frame → Keeps base r first values → Written r mid first values b →
+      Runs codes n (b (slice_set env y bytes)) (here pc values frame)
+  short_kept_runs ty y regs bytes z v r pc mid b env first values frame narrow spot_is type_is inside le sized is in_regs at_v s h k go =
       let env1 : Locals = slice_set env y bytes in
-      let x : ℕ = values (r + 2) in
+      let x : ℕ = values v in
       let below : value_named regs.low < base = in_regs.low_below in
       let one : ℕ → ℕ = put values (value_named regs.low) x in
-      let z : ℕ = one (r + 2) in
-      let z_is : z ≡ low v = put_other values (value_named regs.low) x (r + 2) (λ e. omega (arith, below, le, e)) ∙ held.low_half in
       let local : LocalIsHeld base (Some (Values regs)) ty (size_of p ty) bytes one frame = record {
         low_below = in_regs.low_below;
         high_below = in_regs.high_below;
-        low_half = put_same values (value_named regs.low) x ∙ held.low_half ∙ ap low (sym is);
+        low_half = put_same values (value_named regs.low) x ∙ at_v ∙ ap low (sym is);
         high_half = subst (λ b. IsHighHeld b (local_value (number_of ty) bytes) one (value_named regs.high)) (sym narrow) tt;
       } in
       let local_spot : LocalIsHeld base (slice_get spots y) ty (size_of p ty) bytes one frame = subst (λ o. LocalIsHeld base o ty (size_of p ty) bytes one frame) (sym spot_is) local in
@@ -213,23 +212,18 @@ module _ (codes : MidCode) (f : ℕ) (rest : List Activation) (labels : IsLabell
       (subst (λ u. HasBytes (size_of p u) bytes) (sym type_is) sized)
       (subst (λ u. LocalIsHeld base (slice_get spots y) u (size_of p u) bytes one frame) (sym type_is) local_spot)
       (λ s other low_s. put_other values (value_named regs.low) x s (λ e. other false (ap (λ o. value_at o false (is_wide (number_of (type_of p types spots base y)))) spot_is ∙ ap Some (sym e)))) in
-      goes codes n (after v env1) _ (here (pc + 1) one frame) (does codes f rest pc values frame (Move (value_named regs.low) (r + 2)) s.0)
-      (goes codes n (after v env1) _ (here (pc + 1 + 1) (put one r z) frame) (does codes f rest (pc + 1) one frame (Move r (r + 2)) s.1.0)
-      (at_end codes f rest n (after v env1) (pc + 1 + 1) end (put one r z) frame s.1.1
-      (next v env1 (put one r z) frame (record {
-        holds = holds_put base p types spots env1 one frame r z le holds1;
-        keeps = keeps_put base r r z first one (omega arith) (keeps_below base r (value_named regs.low) x first values below k);
-        is = result (put one r z) r (narrow_at codes f rest labels n p types spots base (number_of ty) v r z one narrow held.number z_is);
-      }))))
+      goes codes n (b env1) _ (here (pc + 1) one frame) (does codes f rest pc values frame (Move (value_named regs.low) v) s.0)
+      (at_end codes f rest n (b env1) (pc + 1) mid one frame s.1
+      (go env1 one frame holds1 (keeps_below base r (value_named regs.low) x first values below k) (λ i far. put_other values (value_named regs.low) x i (λ e. omega (arith, below, le, far, e)))))
 
   -- of two values
-  wide_kept_runs : (t : IntType) (y : ℕ) (regs : Regs) (bytes : List ℕ) (v : ℤ) (r pc end : ℕ) (after : ℤ → Locals → Behaviour) (env : Locals) (first values frame : ℕ → ℕ) →
-      Is32Bits t → slice_get spots y ≡ Some (Values regs) → type_of p types spots base y ≡ int t → y < length types → base ≤ r →
-      HasBytes (size_of p (int t)) bytes → local_value t bytes ≡ v → InRegs base t (local_value t (slice_index_or env y [])) values regs → IsHeld t v values (r + 2) →
-      Stands code pc (Move (value_named regs.low) (r + 2) ∷ Move (value_named regs.high) (r + 2 + 1) ∷ Move r (r + 2) ∷ Move (r + 1) (r + 2 + 1) ∷ []) end →
-      Holds p types spots base env values frame → Keeps base r first values → Behind (int t) r end first after →
-      Runs codes n (after v (slice_set env y bytes)) (here pc values frame)
-  wide_kept_runs t y regs bytes v r pc end after env first values frame ok spot_is type_is inside le sized is in_regs held s h k next =
+  wide_kept_runs : (t : IntType) (y : ℕ) (regs : Regs) (bytes : List ℕ) (z : ℤ) (v r pc mid : ℕ) (b : Locals → Behaviour) (env : Locals) (first values frame : ℕ → ℕ) →
+      Is32Bits t → slice_get spots y ≡ Some (Values regs) → type_of p types spots base y ≡ int t → y < length types → base ≤ r → r + 2 ≤ v →
+      HasBytes (size_of p (int t)) bytes → local_value t bytes ≡ z → InRegs base t (local_value t (slice_index_or env y [])) values regs → IsHeld t z values v →
+      Stands code pc (Move (value_named regs.low) v ∷ Move (value_named regs.high) (v + 1) ∷ []) mid →
+      Holds p types spots base env values frame → Keeps base r first values → Written r mid first values b →
+      Runs codes n (b (slice_set env y bytes)) (here pc values frame)
+  wide_kept_runs t y regs bytes z v r pc mid b env first values frame ok spot_is type_is inside le behind sized is in_regs held s h k go =
       let env1 : Locals = slice_set env y bytes in
       let lo : ℕ = value_named regs.low in
       let hi : ℕ = value_named regs.high in
@@ -240,99 +234,80 @@ module _ (codes : MidCode) (f : ℕ) (rest : List Activation) (labels : IsLabell
       let differ : lo ≢ hi = λ e. let both = (h.apart y y lo false true inside inside at_lo (at_hi ∙ ap Some (sym e))).1 in absurd (cc) in
       let low_below : lo < base = in_regs.low_below in
       let high_below : hi < base = subst (λ w. IsHighBelow w base hi) (is_wide_of t ok) in_regs.high_below in
-      let x : ℕ = values (r + 2) in
+      let x : ℕ = values v in
       let one : ℕ → ℕ = put values lo x in
-      let z : ℕ = one (r + 2 + 1) in
-      let two : ℕ → ℕ = put one hi z in
-      let low_two : ℕ = two (r + 2) in
-      let three : ℕ → ℕ = put two r low_two in
-      let high_three : ℕ = three (r + 2 + 1) in
-      let four : ℕ → ℕ = put three (r + 1) high_three in
-      let z_is : z ≡ high v = put_other values lo x (r + 2 + 1) (λ e. omega (arith, low_below, le, e)) ∙ high_of t v values (r + 2) ok held in
-      let low_is : low_two ≡ low v = put_other one hi z (r + 2) (λ e. omega (arith, high_below, le, e)) ∙ put_other values lo x (r + 2) (λ e. omega (arith, low_below, le, e)) ∙ held.low_half in
-      let high_is : high_three ≡ high v = put_other two r low_two (r + 2 + 1) (λ e. omega arith) ∙ put_other one hi z (r + 2 + 1) (λ e. omega (arith, high_below, le, e)) ∙ z_is in
+      let u : ℕ = one (v + 1) in
+      let two : ℕ → ℕ = put one hi u in
+      let u_is : u ≡ high z = put_other values lo x (v + 1) (λ e. omega (arith, low_below, le, behind, e)) ∙ high_of t z values v ok held in
       let local : LocalIsHeld base (Some (Values regs)) (int t) (size_of p (int t)) bytes two frame = record {
         low_below = in_regs.low_below;
         high_below = in_regs.high_below;
-        low_half = put_other one hi z lo differ ∙ put_same values lo x ∙ held.low_half ∙ ap low (sym is);
-        high_half = subst (λ b. IsHighHeld b (local_value t bytes) two hi) (sym (is_wide_of t ok)) (put_same one hi z ∙ z_is ∙ ap high (sym is));
+        low_half = put_other one hi u lo differ ∙ put_same values lo x ∙ held.low_half ∙ ap low (sym is);
+        high_half = subst (λ b. IsHighHeld b (local_value t bytes) two hi) (sym (is_wide_of t ok)) (put_same one hi u ∙ u_is ∙ ap high (sym is));
       } in
       let local_spot : LocalIsHeld base (slice_get spots y) (int t) (size_of p (int t)) bytes two frame = subst (λ o. LocalIsHeld base o (int t) (size_of p (int t)) bytes two frame) (sym spot_is) local in
       let holds1 = local_written p types spots base y bytes env values two frame inside h
       (subst (λ u. HasBytes (size_of p u) bytes) (sym type_is) sized)
       (subst (λ u. LocalIsHeld base (slice_get spots y) u (size_of p u) bytes two frame) (sym type_is) local_spot)
-      (λ s other low_s. put_other one hi z s (λ e. other true (at_hi ∙ ap Some (sym e))) ∙ put_other values lo x s (λ e. other false (at_lo ∙ ap Some (sym e)))) in
-      goes codes n (after v env1) _ (here (pc + 1) one frame) (does codes f rest pc values frame (Move lo (r + 2)) s.0)
-      (goes codes n (after v env1) _ (here (pc + 1 + 1) two frame) (does codes f rest (pc + 1) one frame (Move hi (r + 2 + 1)) s.1.0)
-      (goes codes n (after v env1) _ (here (pc + 1 + 1 + 1) three frame) (does codes f rest (pc + 1 + 1) two frame (Move r (r + 2)) s.1.1.0)
-      (goes codes n (after v env1) _ (here (pc + 1 + 1 + 1 + 1) four frame) (does codes f rest (pc + 1 + 1 + 1) three frame (Move (r + 1) (r + 2 + 1)) s.1.1.1.0)
-      (at_end codes f rest n (after v env1) (pc + 1 + 1 + 1 + 1) end four frame s.1.1.1.1
-      (next v env1 four frame (record {
-        holds = holds_put base p types spots env1 three frame (r + 1) high_three (omega arith) (holds_put base p types spots env1 two frame r low_two le holds1);
-        keeps = keeps_put base r (r + 1) high_three first three (omega arith) (keeps_put base r r low_two first two (omega arith) (keeps_below base r hi z first one high_below (keeps_below base r lo x first values low_below k)));
-        is = wide_at t v four r ok held.number (put_other three (r + 1) high_three r (λ e. omega arith) ∙ put_same two r low_two ∙ low_is) (put_same three (r + 1) high_three ∙ high_is);
-      }))))))
+      (λ s other low_s. put_other one hi u s (λ e. other true (at_hi ∙ ap Some (sym e))) ∙ put_other values lo x s (λ e. other false (at_lo ∙ ap Some (sym e)))) in
+      goes codes n (b env1) _ (here (pc + 1) one frame) (does codes f rest pc values frame (Move lo v) s.0)
+      (goes codes n (b env1) _ (here (pc + 1 + 1) two frame) (does codes f rest (pc + 1) one frame (Move hi (v + 1)) s.1.0)
+      (at_end codes f rest n (b env1) (pc + 1 + 1) mid two frame s.1.1
+      (go env1 two frame holds1 (keeps_below base r hi u first one high_below (keeps_below base r lo x first values low_below k))
+      (λ i far. put_other one hi u i (λ e. omega (arith, high_below, le, far, e)) ∙ put_other values lo x i (λ e. omega (arith, low_below, le, far, e))))))
 
-  pub local_kept_runs : (o : Option Spot) (ty : Ty) (y : ℕ) (v : ℤ) (r pc end : ℕ) (after : ℤ → Locals → Behaviour) (env : Locals) (first values frame : ℕ → ℕ) →
-      IsInValues o → IsNumberSized ty → slice_get spots y ≡ o → type_of p types spots base y ≡ ty → y < length types → base ≤ r →
-      LocalIsHeld base o ty (size_of p ty) (slice_index_or env y []) values frame → IsResult ty v values (r + 2) →
-      Stands code pc (put_code (kind_of_spot o) (number_of ty) (r + 2) r ++ move_code (is_wide (number_of ty)) r (r + 2)) end →
-      Holds p types spots base env values frame → Keeps base r first values → Behind ty r end first after →
-      Runs codes n (store ty (Within y 0) v (λ _. after v) env) (here pc values frame)
-  local_kept_runs (Some (Values regs)) (int I8) y v r pc end after env first values frame in_values kept spot_is type_is inside le local held s h k next =
+  pub local_kept_runs : (ty : Ty) (regs : Regs) (y : ℕ) (z : ℤ) (v r pc mid : ℕ) (b : Locals → Behaviour) (env : Locals) (first values frame : ℕ → ℕ) →
+      IsScalar ty → slice_get spots y ≡ Some (Values regs) → type_of p types spots base y ≡ ty → y < length types → base ≤ r → r + 2 ≤ v →
+      InRegs base (number_of ty) (local_value (number_of ty) (slice_index_or env y [])) values regs → IsHeld (number_of ty) z values v →
+      Stands code pc (keep_code (is_wide (number_of ty)) regs v) mid →
+      Holds p types spots base env values frame → Keeps base r first values → Written r mid first values b →
+      Runs codes n (store ty (Within y 0) z (λ _. b) env) (here pc values frame)
+  local_kept_runs (int I8) regs y z v r pc mid b env first values frame kept spot_is type_is inside le behind local held s h k go =
       let l : List ℕ = slice_index_or env y [] in
-      let w : ℕ = residue 8 v in
+      let w : ℕ = residue 8 z in
       let sized = subst (λ u. HasBytes (size_of p u) l) type_is (h.bytes y inside) in
-      short_kept_runs (int I8) y regs (one_byte l w) v r pc end after env first values frame (λ new at is. is) refl spot_is type_is inside le
-      (bytes_set 1 l 0 w (byte_small v) sized) (ap (λ m. wrapped I8 (pos m)) (byte_in l w sized.length_is) ∙ number_of_byte I8 tt v held.number) local held s h k next
-  local_kept_runs (Some (Values regs)) (int U8) y v r pc end after env first values frame in_values kept spot_is type_is inside le local held s h k next =
+      short_kept_runs (int I8) y regs (one_byte l w) z v r pc mid b env first values frame refl spot_is type_is inside le
+      (bytes_set 1 l 0 w (byte_small z) sized) (ap (λ m. wrapped I8 (pos m)) (byte_in l w sized.length_is) ∙ number_of_byte I8 tt z held.number) local held.low_half s h k go
+  local_kept_runs (int U8) regs y z v r pc mid b env first values frame kept spot_is type_is inside le behind local held s h k go =
       let l : List ℕ = slice_index_or env y [] in
-      let w : ℕ = residue 8 v in
+      let w : ℕ = residue 8 z in
       let sized = subst (λ u. HasBytes (size_of p u) l) type_is (h.bytes y inside) in
-      short_kept_runs (int U8) y regs (one_byte l w) v r pc end after env first values frame (λ new at is. is) refl spot_is type_is inside le
-      (bytes_set 1 l 0 w (byte_small v) sized) (ap (λ m. wrapped U8 (pos m)) (byte_in l w sized.length_is) ∙ number_of_byte U8 tt v held.number) local held s h k next
-  local_kept_runs (Some (Values regs)) (int I16) y v r pc end after env first values frame in_values kept spot_is type_is inside le local held s h k next =
+      short_kept_runs (int U8) y regs (one_byte l w) z v r pc mid b env first values frame refl spot_is type_is inside le
+      (bytes_set 1 l 0 w (byte_small z) sized) (ap (λ m. wrapped U8 (pos m)) (byte_in l w sized.length_is) ∙ number_of_byte U8 tt z held.number) local held.low_half s h k go
+  local_kept_runs (int I16) regs y z v r pc mid b env first values frame kept spot_is type_is inside le behind local held s h k go =
       let l : List ℕ = slice_index_or env y [] in
-      let w : ℕ = residue 16 v in
+      let w : ℕ = residue 16 z in
       let sized = subst (λ u. HasBytes (size_of p u) l) type_is (h.bytes y inside) in
-      short_kept_runs (int I16) y regs (two_bytes l w) v r pc end after env first values frame (λ new at is. is) refl spot_is type_is inside le
-      (word_set 2 l w (low_small v) sized) (ap (λ m. wrapped I16 (pos m)) (word_in l w sized.length_is) ∙ number_of_low I16 tt v held.number) local held s h k next
-  local_kept_runs (Some (Values regs)) (int U16) y v r pc end after env first values frame in_values kept spot_is type_is inside le local held s h k next =
+      short_kept_runs (int I16) y regs (two_bytes l w) z v r pc mid b env first values frame refl spot_is type_is inside le
+      (word_set 2 l w (low_small z) sized) (ap (λ m. wrapped I16 (pos m)) (word_in l w sized.length_is) ∙ number_of_low I16 tt z held.number) local held.low_half s h k go
+  local_kept_runs (int U16) regs y z v r pc mid b env first values frame kept spot_is type_is inside le behind local held s h k go =
       let l : List ℕ = slice_index_or env y [] in
-      let w : ℕ = residue 16 v in
+      let w : ℕ = residue 16 z in
       let sized = subst (λ u. HasBytes (size_of p u) l) type_is (h.bytes y inside) in
-      short_kept_runs (int U16) y regs (two_bytes l w) v r pc end after env first values frame (λ new at is. is) refl spot_is type_is inside le
-      (word_set 2 l w (low_small v) sized) (ap (λ m. wrapped U16 (pos m)) (word_in l w sized.length_is) ∙ number_of_low U16 tt v held.number) local held s h k next
-  local_kept_runs (Some (Values regs)) (pointer t) y v r pc end after env first values frame in_values kept spot_is type_is inside le local held s h k next =
+      short_kept_runs (int U16) y regs (two_bytes l w) z v r pc mid b env first values frame refl spot_is type_is inside le
+      (word_set 2 l w (low_small z) sized) (ap (λ m. wrapped U16 (pos m)) (word_in l w sized.length_is) ∙ number_of_low U16 tt z held.number) local held.low_half s h k go
+  local_kept_runs (pointer t) regs y z v r pc mid b env first values frame kept spot_is type_is inside le behind local held s h k go =
       let l : List ℕ = slice_index_or env y [] in
-      let w : ℕ = residue 16 v in
+      let w : ℕ = residue 16 z in
       let sized = subst (λ u. HasBytes (size_of p u) l) type_is (h.bytes y inside) in
-      short_kept_runs (pointer t) y regs (two_bytes l w) v r pc end after env first values frame (λ new at is. is) refl spot_is type_is inside le
-      (word_set 2 l w (low_small v) sized) (ap (λ m. wrapped U16 (pos m)) (word_in l w sized.length_is) ∙ number_of_low U16 tt v held.number) local held s h k next
-  local_kept_runs (Some (Values regs)) (int I32) y v r pc end after env first values frame in_values kept spot_is type_is inside le local held s h k next =
+      short_kept_runs (pointer t) y regs (two_bytes l w) z v r pc mid b env first values frame refl spot_is type_is inside le
+      (word_set 2 l w (low_small z) sized) (ap (λ m. wrapped U16 (pos m)) (word_in l w sized.length_is) ∙ number_of_low U16 tt z held.number) local held.low_half s h k go
+  local_kept_runs (int I32) regs y z v r pc mid b env first values frame kept spot_is type_is inside le behind local held s h k go =
       let l : List ℕ = slice_index_or env y [] in
-      let w : ℕ = residue 32 v in
+      let w : ℕ = residue 32 z in
       let sized = subst (λ u. HasBytes (size_of p u) l) type_is (h.bytes y inside) in
       let many = h.count in
-      subst (λ e. Runs codes n (after v e) (here pc values frame)) (sym (written_twice env y w (omega (arith, inside, many))))
-      (wide_kept_runs I32 y regs (four_bytes l w) v r pc end after env first values frame tt spot_is type_is inside le
-      (long_set 4 l w (rest_small v) sized) (ap (λ m. wrapped I32 (pos m)) (long_in l w sized.length_is) ∙ number_of_rest I32 tt v held.number) local held s h k next)
-  local_kept_runs (Some (Values regs)) (int U32) y v r pc end after env first values frame in_values kept spot_is type_is inside le local held s h k next =
+      subst (λ e. Runs codes n (b e) (here pc values frame)) (sym (written_twice env y w (omega (arith, inside, many))))
+      (wide_kept_runs I32 y regs (four_bytes l w) z v r pc mid b env first values frame tt spot_is type_is inside le behind
+      (long_set 4 l w (rest_small z) sized) (ap (λ m. wrapped I32 (pos m)) (long_in l w sized.length_is) ∙ number_of_rest I32 tt z held.number) local held s h k go)
+  local_kept_runs (int U32) regs y z v r pc mid b env first values frame kept spot_is type_is inside le behind local held s h k go =
       let l : List ℕ = slice_index_or env y [] in
-      let w : ℕ = residue 32 v in
+      let w : ℕ = residue 32 z in
       let sized = subst (λ u. HasBytes (size_of p u) l) type_is (h.bytes y inside) in
       let many = h.count in
-      subst (λ e. Runs codes n (after v e) (here pc values frame)) (sym (written_twice env y w (omega (arith, inside, many))))
-      (wide_kept_runs U32 y regs (four_bytes l w) v r pc end after env first values frame tt spot_is type_is inside le
-      (long_set 4 l w (rest_small v) sized) (ap (λ m. wrapped U32 (pos m)) (long_in l w sized.length_is) ∙ number_of_rest U32 tt v held.number) local held s h k next)
-  local_kept_runs (Some (Values regs)) void y v r pc end after env first values frame in_values kept spot_is type_is inside le local held s h k next = absurd kept
-  local_kept_runs (Some (Values regs)) (array t m) y v r pc end after env first values frame in_values kept spot_is type_is inside le local held s h k next = absurd kept
-  local_kept_runs (Some (Values regs)) (struct j) y v r pc end after env first values frame in_values kept spot_is type_is inside le local held s h k next = absurd kept
-  local_kept_runs None ty y v r pc end after env first values frame in_values kept spot_is type_is inside le local held s h k next = absurd in_values
-  local_kept_runs (Some (Frame o)) ty y v r pc end after env first values frame in_values kept spot_is type_is inside le local held s h k next = absurd in_values
-
-  -- no code leads to a local in values
-  pub nothing_first : (o : Option Spot) (r pc mid : ℕ) → IsInValues o → Stands code pc (local_code o r) mid → pc ≡ mid
-  nothing_first None r pc mid in_values s = absurd in_values
-  nothing_first (Some (Values regs)) r pc mid in_values s = s
-  nothing_first (Some (Frame o)) r pc mid in_values s = absurd in_values
+      subst (λ e. Runs codes n (b e) (here pc values frame)) (sym (written_twice env y w (omega (arith, inside, many))))
+      (wide_kept_runs U32 y regs (four_bytes l w) z v r pc mid b env first values frame tt spot_is type_is inside le behind
+      (long_set 4 l w (rest_small z) sized) (ap (λ m. wrapped U32 (pos m)) (long_in l w sized.length_is) ∙ number_of_rest U32 tt z held.number) local held s h k go)
+  local_kept_runs void regs y z v r pc mid b env first values frame kept spot_is type_is inside le behind local held s h k go = absurd kept
+  local_kept_runs (array t m) regs y z v r pc mid b env first values frame kept spot_is type_is inside le behind local held s h k go = absurd kept
+  local_kept_runs (struct j) regs y z v r pc mid b env first values frame kept spot_is type_is inside le behind local held s h k go = absurd kept

@@ -16,7 +16,6 @@ use Rattle.nm_base.specs.IntType.{wrapped, signed_part, least, greatest}
 use Rattle.lower_expr.proofs.Congruence.{wrapped_meant}
 use Rattle.mid_code.specs.Help.{is_wide}
 use Rattle.core_meaning.specs.Numbers.{residue}
-use Rattle.lower_expr.specs.Covered.{IsShortUnsigned}
 use Rattle.lower_expr.specs.Held.{low, high}
 
 -- a number by its residue modulo 65,536, and by that modulo 2 ^ 32
@@ -371,6 +370,12 @@ high_of_halves x y a = omega (arith, a)
 
 pub low_wrapped_wide : (t : IntType) → Is32Bits t → (z : ℤ) → low (wrapped t z) ≡ low z
 low_wrapped_wide t ok z = low_of_rest (wrapped t z) ∙ ap (λ m. m % 65536) (rest_wrapped t ok z) ∙ sym (low_of_rest z)
+
+-- not negative, in one value
+abbrev pub IsShortUnsigned : IntType → Type 0
+IsShortUnsigned U8 = Unit {0}
+IsShortUnsigned U16 = Unit {0}
+IsShortUnsigned _ = ⊥
 
 -- a number of 16 bits that is not negative has no high half
 pub no_high : (from : IntType) → (z : ℤ) → pos 0 ≤ℤ z → z ≤ℤ pos 65535 → high z ≡ 0

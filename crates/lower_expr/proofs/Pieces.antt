@@ -1,42 +1,35 @@
 -- The code of each operation does what the operation does.
-use Rattle.std.proofs.Common.{◌≡◌, ◌≢◌, ℕ, ◌+◌, ◌*◌, ◌/◌, ◌%◌, ◌<◌, ◌≤◌, Bool, true, false, List, [], ◌∷◌, ◌++◌, Option, Some, None, refl, sym, ap, ◌∙◌, subst, arith}
-use Rattle.std.specs.Prelude.{ℤ, pos, slice_get, slice_index, slice_index_or, bit_and, not, ◌==◌}
+use Rattle.std.proofs.Common.{◌≡◌, ◌≢◌, ℕ, ◌+◌, ◌%◌, ◌≤◌, Bool, true, false, List, [], ◌∷◌, Some, refl, sym, ap, ◌∙◌, subst, arith}
+use Rattle.std.specs.Prelude.{ℤ, pos, slice_get, bit_and, not, ◌==◌}
 use Rattle.std.proofs.lemmas.Nat.{and_mask}
 use Rattle.nm_base.specs.declared.int_type.IntType.{IntType}
 use Rattle.nm_base.specs.declared.int_type.IntType.TheVariants.{I8, U8, I16, U16, I32, U32}
 use Rattle.nm_base.specs.IntType.{wrapped}
-use Rattle.nm_base.specs.Behaviour.{Behaviour, Asks, Does}
-use Rattle.nesc_core.specs.Plain.{Ty, void, int, pointer, array, struct, Program}
-use Rattle.nesc_core.specs.Typing.{IsScalar}
-use Rattle.core_meaning.specs.Numbers.{residue, truth, is_zero}
-use Rattle.core_meaning.specs.Layout.{size_of}
-use Rattle.core_meaning.specs.Work.{Locals, load, store, number_of}
-use Rattle.core_meaning.specs.declared.access.Where.TheVariants.{At, Within}
-use Rattle.nm_base.specs.declared.action.Action.TheVariants as action
+use Rattle.nm_base.specs.Behaviour.{Behaviour}
+use Rattle.nesc_core.specs.Plain.{Ty, int, Program}
+use Rattle.core_meaning.specs.Numbers.{truth, is_zero}
+use Rattle.core_meaning.specs.Work.{Locals}
 use Rattle.mid_code.specs.declared.instr.Op.{Op}
-use Rattle.mid_code.specs.declared.instr.Op.TheVariants.{Add, And}
+use Rattle.mid_code.specs.declared.instr.Op.TheVariants.{And}
 use Rattle.mid_code.specs.declared.instr.Test.{Test}
 use Rattle.mid_code.specs.declared.instr.Test.TheVariants.{Eq, Ne}
 use Rattle.mid_code.specs.declared.instr.Mid.{Mid}
-use Rattle.mid_code.specs.declared.instr.Mid.TheVariants.{Set, Move, Load, Store, Bin, Carry, Label, Jump, Branch}
+use Rattle.mid_code.specs.declared.instr.Mid.TheVariants.{Set, Bin, Carry, Label, Jump, Branch}
 use Rattle.mid_code.specs.declared.code.MidCode.{MidCode}
 use Rattle.mid_code.specs.Machine.{Activation, fn_of, put}
 use Rattle.mid_code.specs.Words.{operate, carry, holds}
 use Rattle.mid_code.specs.Runs.{IsLabelled, Runs, Stands}
 use Rattle.mid_code.specs.Help.{is_wide}
-use Rattle.mid_code.proofs.Runs.{goes, wants, acts_on}
+use Rattle.mid_code.proofs.Runs.{goes}
 use Rattle.mid_code.proofs.Stands.{here, does, at_end, branch_runs, jump_runs, stay_runs}
 use Rattle.mid_code.proofs.Written.{put_same, put_other}
 use Rattle.lower_expr.specs.declared.spot.Spot.{Spot}
-use Rattle.lower_expr.specs.declared.spot.Spot.TheVariants.{Values, Frame}
 use Rattle.lower_expr.specs.Held.{IsHeld, IsHighHeld, low, high}
 use Rattle.lower_expr.specs.Runs.{After, Keeps}
-use Rattle.lower_expr.specs.Locals.{HasBytes, Holds, IsResult, LocalIsHeld, local_value, number_in}
-use Rattle.lower_expr.specs.Code.{fetch_code, kind_of_spot, load_code, local_code, store_code, value_named}
-use Rattle.lower_expr.specs.Covered.{IsInValues, IsNumberSized, IsWordSized}
-use Rattle.lower_expr.specs.Pieces.{const_code, fit_code, move_code, sum_code, truth_code}
+use Rattle.lower_expr.specs.Locals.{Holds}
+use Rattle.lower_expr.specs.Pieces.{const_code, fit_code, sum_code, truth_code}
 use Rattle.lower_expr.proofs.Values.{keeps_refl, keeps_put, holds_put}
-use Rattle.lower_expr.proofs.Numbers.{Is32Bits, low_of_rest, rest_wrapped, rest_of_halves, low_of_halves, high_of_halves, low_wrapped, byte_of_low, low_byte, low_word, word_number, wrapped_again, zero_low}
+use Rattle.lower_expr.proofs.Numbers.{wrapped_again, zero_low}
 
 -- in function f over other calls, with locals of these types at these spots
 module _ (codes : MidCode) (f : ℕ) (rest : List Activation) (labels : IsLabelled (fn_of codes f).code) (n : ℕ)
@@ -122,121 +115,6 @@ module _ (codes : MidCode) (f : ℕ) (rest : List Activation) (labels : IsLabell
         keeps = keeps_put base r r w first values (omega arith) k;
         is = narrow_at t z r w values narrow number is;
       })))
-
-  -- ---- what is read from memory
-
-  pub load_runs : (ty : Ty) (a r pc end : ℕ) (after : ℤ → Locals → Behaviour) (env : Locals) (first values frame : ℕ → ℕ) →
-      IsWordSized ty → base ≤ r → values r ≡ a → Stands code pc (load_code (number_of ty) r r) end →
-      Holds p types spots base env values frame → Keeps base r first values → Next ty r end first after →
-      Runs codes n (load ty (At a) after env) (at_here pc values frame)
-  load_runs (int U8) a r pc end after env first values frame ok le e s h k next =
-      subst (λ u. Runs codes n (load (int U8) (At u) after env) (at_here pc values frame)) e
-      (wants codes n (action.Load (values r) false) (λ x. after (wrapped U8 (pos x)) env) _ (λ x. at_here (pc + 1) (put values r (x % 256)) frame) (does codes f rest pc values frame (Load false r r) s.0)
-      (λ x lt. at_end codes f rest n (after (wrapped U8 (pos x)) env) (pc + 1) end (put values r (x % 256)) frame s.1
-      (next (wrapped U8 (pos x)) env (put values r (x % 256)) frame (record {
-        holds = holds_put base p types spots env values frame r (x % 256) le h;
-        keeps = keeps_put base r r (x % 256) first values (omega arith) k;
-        is = narrow_at U8 (wrapped U8 (pos x)) r (x % 256) values refl (wrapped_again U8 (pos x)) (low_byte x);
-      }))))
-  load_runs (int I16) a r pc end after env first values frame ok le e s h k next =
-      subst (λ u. Runs codes n (load (int I16) (At u) after env) (at_here pc values frame)) e
-      (wants codes n (action.Load (values r) true) (λ x. after (wrapped I16 (pos x)) env) _ (λ x. at_here (pc + 1) (put values r x) frame) (does codes f rest pc values frame (Load true r r) s.0)
-      (λ x lt. at_end codes f rest n (after (wrapped I16 (pos x)) env) (pc + 1) end (put values r x) frame s.1
-      (next (wrapped I16 (pos x)) env (put values r x) frame (record {
-        holds = holds_put base p types spots env values frame r x le h;
-        keeps = keeps_put base r r x first values (omega arith) k;
-        is = narrow_at I16 (wrapped I16 (pos x)) r x values refl (wrapped_again I16 (pos x)) (low_word x lt ∙ sym (low_wrapped I16 tt (pos x)));
-      }))))
-  load_runs (int U16) a r pc end after env first values frame ok le e s h k next =
-      subst (λ u. Runs codes n (load (int U16) (At u) after env) (at_here pc values frame)) e
-      (wants codes n (action.Load (values r) true) (λ x. after (wrapped U16 (pos x)) env) _ (λ x. at_here (pc + 1) (put values r x) frame) (does codes f rest pc values frame (Load true r r) s.0)
-      (λ x lt. at_end codes f rest n (after (wrapped U16 (pos x)) env) (pc + 1) end (put values r x) frame s.1
-      (next (wrapped U16 (pos x)) env (put values r x) frame (record {
-        holds = holds_put base p types spots env values frame r x le h;
-        keeps = keeps_put base r r x first values (omega arith) k;
-        is = narrow_at U16 (wrapped U16 (pos x)) r x values refl (wrapped_again U16 (pos x)) (low_word x lt ∙ sym (low_wrapped U16 tt (pos x)));
-      }))))
-  load_runs (pointer t) a r pc end after env first values frame ok le e s h k next =
-      subst (λ u. Runs codes n (load (pointer t) (At u) after env) (at_here pc values frame)) e
-      (wants codes n (action.Load (values r) true) (λ x. after (pos x) env) _ (λ x. at_here (pc + 1) (put values r x) frame) (does codes f rest pc values frame (Load true r r) s.0)
-      (λ x lt. at_end codes f rest n (after (pos x) env) (pc + 1) end (put values r x) frame s.1
-      (next (pos x) env (put values r x) frame (record {
-        holds = holds_put base p types spots env values frame r x le h;
-        keeps = keeps_put base r r x first values (omega arith) k;
-        is = narrow_at U16 (pos x) r x values refl (word_number x lt) (low_word x lt);
-      }))))
-  load_runs void a r pc end after env first values frame ok le e s h k next = absurd ok
-  load_runs (int I8) a r pc end after env first values frame ok le e s h k next = absurd ok
-  load_runs (int I32) a r pc end after env first values frame ok le e s h k next = absurd ok
-  load_runs (int U32) a r pc end after env first values frame ok le e s h k next = absurd ok
-  load_runs (array t m) a r pc end after env first values frame ok le e s h k next = absurd ok
-  load_runs (struct j) a r pc end after env first values frame ok le e s h k next = absurd ok
-
-  -- ---- what is written to memory, and is the result
-
-  pub store_runs : (ty : Ty) (a : ℕ) (v : ℤ) (r pc end : ℕ) (after : ℤ → Locals → Behaviour) (env : Locals) (first values frame : ℕ → ℕ) →
-      IsWordSized ty → base ≤ r → values r ≡ a → IsResult ty v values (r + 2) →
-      Stands code pc (store_code (number_of ty) (r + 2) r ++ move_code (is_wide (number_of ty)) r (r + 2)) end →
-      Holds p types spots base env values frame → Keeps base r first values → Next ty r end first after →
-      Runs codes n (store ty (At a) v (λ _. after v) env) (at_here pc values frame)
-  store_runs (int U8) a v r pc end after env first values frame ok le e held s h k next =
-      let x : ℕ = values (r + 2) in
-      let is : x % 256 ≡ residue 8 v = ap (λ m. m % 256) held.low_half ∙ byte_of_low v in
-      subst (λ u. Runs codes n (Does (action.Store u false (residue 8 v)) (after v env)) (at_here pc values frame)) e
-      (subst (λ z. Runs codes n (Does (action.Store (values r) false z) (after v env)) (at_here pc values frame)) is
-      (acts_on codes n (action.Store (values r) false (x % 256)) (after v env) _ (at_here (pc + 1) values frame) (does codes f rest pc values frame (Store false (r + 2) r) s.0)
-      (goes codes n (after v env) _ (at_here (pc + 1 + 1) (put values r x) frame) (does codes f rest (pc + 1) values frame (Move r (r + 2)) s.1.0)
-      (at_end codes f rest n (after v env) (pc + 1 + 1) end (put values r x) frame s.1.1
-      (next v env (put values r x) frame (record {
-        holds = holds_put base p types spots env values frame r x le h;
-        keeps = keeps_put base r r x first values (omega arith) k;
-        is = narrow_at U8 v r x values refl held.number held.low_half;
-      }))))))
-  store_runs (int I16) a v r pc end after env first values frame ok le e held s h k next =
-      let x : ℕ = values (r + 2) in
-      let is : x ≡ residue 16 v = held.low_half in
-      subst (λ u. Runs codes n (Does (action.Store u true (residue 16 v)) (after v env)) (at_here pc values frame)) e
-      (subst (λ z. Runs codes n (Does (action.Store (values r) true z) (after v env)) (at_here pc values frame)) is
-      (acts_on codes n (action.Store (values r) true (x)) (after v env) _ (at_here (pc + 1) values frame) (does codes f rest pc values frame (Store true (r + 2) r) s.0)
-      (goes codes n (after v env) _ (at_here (pc + 1 + 1) (put values r x) frame) (does codes f rest (pc + 1) values frame (Move r (r + 2)) s.1.0)
-      (at_end codes f rest n (after v env) (pc + 1 + 1) end (put values r x) frame s.1.1
-      (next v env (put values r x) frame (record {
-        holds = holds_put base p types spots env values frame r x le h;
-        keeps = keeps_put base r r x first values (omega arith) k;
-        is = narrow_at I16 v r x values refl held.number held.low_half;
-      }))))))
-  store_runs (int U16) a v r pc end after env first values frame ok le e held s h k next =
-      let x : ℕ = values (r + 2) in
-      let is : x ≡ residue 16 v = held.low_half in
-      subst (λ u. Runs codes n (Does (action.Store u true (residue 16 v)) (after v env)) (at_here pc values frame)) e
-      (subst (λ z. Runs codes n (Does (action.Store (values r) true z) (after v env)) (at_here pc values frame)) is
-      (acts_on codes n (action.Store (values r) true (x)) (after v env) _ (at_here (pc + 1) values frame) (does codes f rest pc values frame (Store true (r + 2) r) s.0)
-      (goes codes n (after v env) _ (at_here (pc + 1 + 1) (put values r x) frame) (does codes f rest (pc + 1) values frame (Move r (r + 2)) s.1.0)
-      (at_end codes f rest n (after v env) (pc + 1 + 1) end (put values r x) frame s.1.1
-      (next v env (put values r x) frame (record {
-        holds = holds_put base p types spots env values frame r x le h;
-        keeps = keeps_put base r r x first values (omega arith) k;
-        is = narrow_at U16 v r x values refl held.number held.low_half;
-      }))))))
-  store_runs (pointer t) a v r pc end after env first values frame ok le e held s h k next =
-      let x : ℕ = values (r + 2) in
-      let is : x ≡ residue 16 v = held.low_half in
-      subst (λ u. Runs codes n (Does (action.Store u true (residue 16 v)) (after v env)) (at_here pc values frame)) e
-      (subst (λ z. Runs codes n (Does (action.Store (values r) true z) (after v env)) (at_here pc values frame)) is
-      (acts_on codes n (action.Store (values r) true (x)) (after v env) _ (at_here (pc + 1) values frame) (does codes f rest pc values frame (Store true (r + 2) r) s.0)
-      (goes codes n (after v env) _ (at_here (pc + 1 + 1) (put values r x) frame) (does codes f rest (pc + 1) values frame (Move r (r + 2)) s.1.0)
-      (at_end codes f rest n (after v env) (pc + 1 + 1) end (put values r x) frame s.1.1
-      (next v env (put values r x) frame (record {
-        holds = holds_put base p types spots env values frame r x le h;
-        keeps = keeps_put base r r x first values (omega arith) k;
-        is = narrow_at U16 v r x values refl held.number held.low_half;
-      }))))))
-  store_runs void a v r pc end after env first values frame ok le e held s h k next = absurd ok
-  store_runs (int I8) a v r pc end after env first values frame ok le e held s h k next = absurd ok
-  store_runs (int I32) a v r pc end after env first values frame ok le e held s h k next = absurd ok
-  store_runs (int U32) a v r pc end after env first values frame ok le e held s h k next = absurd ok
-  store_runs (array t m) a v r pc end after env first values frame ok le e held s h k next = absurd ok
-  store_runs (struct j) a v r pc end after env first values frame ok le e held s h k next = absurd ok
 
   -- ---- truth values
 
@@ -341,13 +219,6 @@ module _ (codes : MidCode) (f : ℕ) (rest : List Activation) (labels : IsLabell
         is = narrow_at U8 (wrapped U8 v) r w one refl (wrapped_again U8 v) byte;
       }))))
 
-  pub as_number : (ty : Ty) (v : ℤ) (values : ℕ → ℕ) (r : ℕ) → IsScalar ty → IsResult ty v values r → IsHeld (number_of ty) v values r
-  as_number void v values r scalar h = absurd scalar
-  as_number (int t) v values r scalar h = h
-  as_number (pointer t) v values r scalar h = h
-  as_number (array t m) v values r scalar h = absurd scalar
-  as_number (struct j) v values r scalar h = absurd scalar
-
   -- the ends of a logical operator, whose labels are l and l + 1
   pub last_runs : (x l pc end r : ℕ) (v : ℤ) (after : ℤ → Locals → Behaviour) (env : Locals) (first values frame : ℕ → ℕ) →
       base ≤ r → x ≡ low v → wrapped I16 v ≡ v → Stands code pc (Label l ∷ Set r x ∷ Label (l + 1) ∷ []) end →
@@ -378,110 +249,6 @@ module _ (codes : MidCode) (f : ℕ) (rest : List Activation) (labels : IsLabell
         keeps = keeps_put base r r x first values (omega arith) k;
         is = narrow_at I16 v r x values refl number is;
       })))))
-
-  -- a local that is in values
-  pub local_runs : (o : Option Spot) (ty : Ty) (y size r pc end : ℕ) (after : ℤ → Locals → Behaviour) (env : Locals) (first values frame : ℕ → ℕ) →
-      IsInValues o → IsNumberSized ty → HasBytes (size_of p ty) (slice_index_or env y []) → LocalIsHeld base o ty size (slice_index_or env y []) values frame → base ≤ r →
-      Stands code pc (local_code o r ++ fetch_code (kind_of_spot o) (number_of ty) r r) end →
-      Holds p types spots base env values frame → Keeps base r first values → Next ty r end first after →
-      Runs codes n (load ty (Within y 0) after env) (at_here pc values frame)
-  local_runs (Some (Values regs)) (int U8) y size r pc end after env first values frame inside ok sized held le s h k next =
-      let v : ℤ = local_value U8 (slice_index_or env y []) in
-      let x : ℕ = values (value_named regs.low) in
-      goes codes n (after v env) _ (at_here (pc + 1) (put values r x) frame) (does codes f rest pc values frame (Move r (value_named regs.low)) s.0)
-      (at_end codes f rest n (after v env) (pc + 1) end (put values r x) frame s.1
-      (next v env (put values r x) frame (record {
-        holds = holds_put base p types spots env values frame r x le h;
-        keeps = keeps_put base r r x first values (omega arith) k;
-        is = narrow_at U8 v r x values refl (wrapped_again U8 (pos (number_in U8 (slice_index_or env y [])))) held.low_half;
-      })))
-  local_runs (Some (Values regs)) (int I16) y size r pc end after env first values frame inside ok sized held le s h k next =
-      let v : ℤ = local_value I16 (slice_index_or env y []) in
-      let x : ℕ = values (value_named regs.low) in
-      goes codes n (after v env) _ (at_here (pc + 1) (put values r x) frame) (does codes f rest pc values frame (Move r (value_named regs.low)) s.0)
-      (at_end codes f rest n (after v env) (pc + 1) end (put values r x) frame s.1
-      (next v env (put values r x) frame (record {
-        holds = holds_put base p types spots env values frame r x le h;
-        keeps = keeps_put base r r x first values (omega arith) k;
-        is = narrow_at I16 v r x values refl (wrapped_again I16 (pos (number_in I16 (slice_index_or env y [])))) held.low_half;
-      })))
-  local_runs (Some (Values regs)) (int U16) y size r pc end after env first values frame inside ok sized held le s h k next =
-      let v : ℤ = local_value U16 (slice_index_or env y []) in
-      let x : ℕ = values (value_named regs.low) in
-      goes codes n (after v env) _ (at_here (pc + 1) (put values r x) frame) (does codes f rest pc values frame (Move r (value_named regs.low)) s.0)
-      (at_end codes f rest n (after v env) (pc + 1) end (put values r x) frame s.1
-      (next v env (put values r x) frame (record {
-        holds = holds_put base p types spots env values frame r x le h;
-        keeps = keeps_put base r r x first values (omega arith) k;
-        is = narrow_at U16 v r x values refl (wrapped_again U16 (pos (number_in U16 (slice_index_or env y [])))) held.low_half;
-      })))
-  local_runs (Some (Values regs)) void y size r pc end after env first values frame inside ok sized held le s h k next = absurd ok
-  local_runs (Some (Values regs)) (int I8) y size r pc end after env first values frame inside ok sized held le s h k next =
-      let v : ℤ = local_value I8 (slice_index_or env y []) in
-      let x : ℕ = values (value_named regs.low) in
-      goes codes n (after v env) _ (at_here (pc + 1) (put values r x) frame) (does codes f rest pc values frame (Move r (value_named regs.low)) s.0)
-      (at_end codes f rest n (after v env) (pc + 1) end (put values r x) frame s.1
-      (next v env (put values r x) frame (record {
-        holds = holds_put base p types spots env values frame r x le h;
-        keeps = keeps_put base r r x first values (omega arith) k;
-        is = narrow_at I8 v r x values refl (wrapped_again I8 (pos (number_in I8 (slice_index_or env y [])))) held.low_half;
-      })))
-  local_runs (Some (Values regs)) (int I32) y size r pc end after env first values frame inside ok sized held le s h k next =
-      let v : ℤ = local_value I32 (slice_index_or env y []) in
-      let x : ℕ = values (value_named regs.low) in
-      let one : ℕ → ℕ = put values r x in
-      let z : ℕ = one (value_named regs.high) in
-      let below : value_named regs.high < base = held.high_below in
-      let z_is : z ≡ high v = put_other values r x (value_named regs.high) (λ e. omega (arith, below, le, e)) ∙ held.high_half in
-      goes codes n (after v env) _ (at_here (pc + 1) one frame) (does codes f rest pc values frame (Move r (value_named regs.low)) s.0)
-      (goes codes n (after v env) _ (at_here (pc + 1 + 1) (put one (r + 1) z) frame) (does codes f rest (pc + 1) one frame (Move (r + 1) (value_named regs.high)) s.1.0)
-      (at_end codes f rest n (after v env) (pc + 1 + 1) end (put one (r + 1) z) frame s.1.1
-      (next v env (put one (r + 1) z) frame (record {
-        holds = holds_put base p types spots env one frame (r + 1) z (omega arith) (holds_put base p types spots env values frame r x le h);
-        keeps = keeps_put base r (r + 1) z first one (omega arith) (keeps_put base r r x first values (omega arith) k);
-        is = record {
-          number = wrapped_again I32 (pos (number_in I32 (slice_index_or env y [])));
-          low_half = put_other one (r + 1) z r (λ e. omega arith) ∙ put_same values r x ∙ held.low_half;
-          high_half = put_same one (r + 1) z ∙ z_is;
-        };
-      }))))
-  local_runs (Some (Values regs)) (int U32) y size r pc end after env first values frame inside ok sized held le s h k next =
-      let v : ℤ = local_value U32 (slice_index_or env y []) in
-      let x : ℕ = values (value_named regs.low) in
-      let one : ℕ → ℕ = put values r x in
-      let z : ℕ = one (value_named regs.high) in
-      let below : value_named regs.high < base = held.high_below in
-      let z_is : z ≡ high v = put_other values r x (value_named regs.high) (λ e. omega (arith, below, le, e)) ∙ held.high_half in
-      goes codes n (after v env) _ (at_here (pc + 1) one frame) (does codes f rest pc values frame (Move r (value_named regs.low)) s.0)
-      (goes codes n (after v env) _ (at_here (pc + 1 + 1) (put one (r + 1) z) frame) (does codes f rest (pc + 1) one frame (Move (r + 1) (value_named regs.high)) s.1.0)
-      (at_end codes f rest n (after v env) (pc + 1 + 1) end (put one (r + 1) z) frame s.1.1
-      (next v env (put one (r + 1) z) frame (record {
-        holds = holds_put base p types spots env one frame (r + 1) z (omega arith) (holds_put base p types spots env values frame r x le h);
-        keeps = keeps_put base r (r + 1) z first one (omega arith) (keeps_put base r r x first values (omega arith) k);
-        is = record {
-          number = wrapped_again U32 (pos (number_in U32 (slice_index_or env y [])));
-          low_half = put_other one (r + 1) z r (λ e. omega arith) ∙ put_same values r x ∙ held.low_half;
-          high_half = put_same one (r + 1) z ∙ z_is;
-        };
-      }))))
-  local_runs (Some (Values regs)) (pointer t) y size r pc end after env first values frame inside ok sized held le s h k next =
-      let bytes : List ℕ = slice_index_or env y [] in
-      let b0 : slice_index bytes 0 < 256 = sized.small 0 (let q : 0 < 2 = omega arith in q) in
-      let b1 : slice_index bytes 1 < 256 = sized.small 1 (let q : 1 < 2 = omega arith in q) in
-      let v : ℤ = pos (number_in U16 bytes) in
-      let few : number_in U16 bytes < 65536 = omega (arith, b0, b1) in
-      let x : ℕ = values (value_named regs.low) in
-      goes codes n (after v env) _ (at_here (pc + 1) (put values r x) frame) (does codes f rest pc values frame (Move r (value_named regs.low)) s.0)
-      (at_end codes f rest n (after v env) (pc + 1) end (put values r x) frame s.1
-      (next v env (put values r x) frame (record {
-        holds = holds_put base p types spots env values frame r x le h;
-        keeps = keeps_put base r r x first values (omega arith) k;
-        is = narrow_at U16 v r x values refl (word_number (number_in U16 bytes) few) (held.low_half ∙ ap low (word_number (number_in U16 bytes) few));
-      })))
-  local_runs (Some (Values regs)) (array t m) y size r pc end after env first values frame inside ok sized held le s h k next = absurd ok
-  local_runs (Some (Values regs)) (struct j) y size r pc end after env first values frame inside ok sized held le s h k next = absurd ok
-  local_runs None ty y size r pc end after env first values frame inside ok sized held le s h k next = absurd inside
-  local_runs (Some (Frame o)) ty y size r pc end after env first values frame inside ok sized held le s h k next = absurd inside
 
   -- ---- a sum or a difference of 32 bits
 
@@ -526,158 +293,3 @@ module _ (codes : MidCode) (f : ℕ) (rest : List Activation) (labels : IsLabell
           high_half = subst (λ b. IsHighHeld b z four (r + 1)) (sym wide) (put_same three (r + 1) w ∙ ew);
         };
       }))))))
-
-  -- ---- what is read from memory, of 32 bits, the low half first
-
-  pub wide_load_runs : (t : IntType) (a r pc end : ℕ) (after : ℤ → Locals → Behaviour) (env : Locals) (first values frame : ℕ → ℕ) →
-      Is32Bits t → base ≤ r → values r ≡ a → Stands code pc (load_code t r r) end →
-      Holds p types spots base env values frame → Keeps base r first values → Next (int t) r end first after →
-      Runs codes n (load (int t) (At a) after env) (at_here pc values frame)
-  wide_load_runs I32 a r pc end after env first values frame ok le e s h k next =
-      let one : ℕ → ℕ = put values (r + 1) 2 in
-      let second : ℕ = operate Add (one r) (one (r + 1)) in
-      let two : ℕ → ℕ = put one (r + 1) second in
-      let at_r : two r ≡ a = put_other one (r + 1) second r (λ e. omega arith) ∙ put_other values (r + 1) 2 r (λ e. omega arith) ∙ e in
-      let at_one : one r ≡ a = put_other values (r + 1) 2 r (λ e. omega arith) ∙ e in
-      let second_is : second ≡ (a + 2) % 65536 = ap (λ u. operate Add u (one (r + 1))) at_one ∙ ap (operate Add a) (put_same values (r + 1) 2) in
-      let all : ℕ → ℕ → Behaviour = λ x y. after (wrapped I32 (pos (x + 65536 * y))) env in
-      let behind : ℕ → Behaviour = λ x. Asks (action.Load ((a + 2) % 65536) true) (all x) in
-      goes codes n (Asks (action.Load a true) behind) _ (at_here (pc + 1) one frame) (does codes f rest pc values frame (Set (r + 1) 2) s.0)
-      (goes codes n (Asks (action.Load a true) behind) _ (at_here (pc + 1 + 1) two frame) (does codes f rest (pc + 1) one frame (Bin Add (r + 1) r (r + 1)) s.1.0)
-      (subst (λ u. Runs codes n (Asks (action.Load u true) behind) (at_here (pc + 1 + 1) two frame)) at_r
-      (wants codes n (action.Load (two r) true) behind _ (λ x. at_here (pc + 1 + 1 + 1) (put two r x) frame) (does codes f rest (pc + 1 + 1) two frame (Load true r r) s.1.1.0)
-      (λ x ltx.
-      let three : ℕ → ℕ = put two r x in
-      let at_high : three (r + 1) ≡ (a + 2) % 65536 = put_other two r x (r + 1) (λ e. omega arith) ∙ put_same one (r + 1) second ∙ second_is in
-      subst (λ u. Runs codes n (Asks (action.Load u true) (all x)) (at_here (pc + 1 + 1 + 1) three frame)) at_high
-      (wants codes n (action.Load (three (r + 1)) true) (all x) _ (λ y. at_here (pc + 1 + 1 + 1 + 1) (put three (r + 1) y) frame) (does codes f rest (pc + 1 + 1 + 1) three frame (Load true (r + 1) (r + 1)) s.1.1.1.0)
-      (λ y lty.
-      let v : ℤ = wrapped I32 (pos (x + 65536 * y)) in
-      let four : ℕ → ℕ = put three (r + 1) y in
-      let rest_is : residue 32 v ≡ x + 65536 * y = rest_wrapped I32 tt (pos (x + 65536 * y)) ∙ rest_of_halves x y ltx lty in
-      at_end codes f rest n (after v env) (pc + 1 + 1 + 1 + 1) end four frame s.1.1.1.1
-      (next v env four frame (record {
-        holds = holds_put base p types spots env three frame (r + 1) y (omega arith) (holds_put base p types spots env two frame r x le (holds_put base p types spots env one frame (r + 1) second (omega arith) (holds_put base p types spots env values frame (r + 1) 2 (omega arith) h)));
-        keeps = keeps_put base r (r + 1) y first three (omega arith) (keeps_put base r r x first two (omega arith) (keeps_put base r (r + 1) second first one (omega arith) (keeps_put base r (r + 1) 2 first values (omega arith) k)));
-        is = record {
-          number = wrapped_again I32 (pos (x + 65536 * y));
-          low_half = put_other three (r + 1) y r (λ e. omega arith) ∙ put_same two r x ∙ sym (low_of_rest v ∙ ap (λ m. m % 65536) rest_is ∙ low_of_halves x y ltx);
-          high_half = put_same three (r + 1) y ∙ sym (ap (λ m. m / 65536) rest_is ∙ high_of_halves x y ltx);
-        };
-      }))))))))
-  wide_load_runs U32 a r pc end after env first values frame ok le e s h k next =
-      let one : ℕ → ℕ = put values (r + 1) 2 in
-      let second : ℕ = operate Add (one r) (one (r + 1)) in
-      let two : ℕ → ℕ = put one (r + 1) second in
-      let at_r : two r ≡ a = put_other one (r + 1) second r (λ e. omega arith) ∙ put_other values (r + 1) 2 r (λ e. omega arith) ∙ e in
-      let at_one : one r ≡ a = put_other values (r + 1) 2 r (λ e. omega arith) ∙ e in
-      let second_is : second ≡ (a + 2) % 65536 = ap (λ u. operate Add u (one (r + 1))) at_one ∙ ap (operate Add a) (put_same values (r + 1) 2) in
-      let all : ℕ → ℕ → Behaviour = λ x y. after (wrapped U32 (pos (x + 65536 * y))) env in
-      let behind : ℕ → Behaviour = λ x. Asks (action.Load ((a + 2) % 65536) true) (all x) in
-      goes codes n (Asks (action.Load a true) behind) _ (at_here (pc + 1) one frame) (does codes f rest pc values frame (Set (r + 1) 2) s.0)
-      (goes codes n (Asks (action.Load a true) behind) _ (at_here (pc + 1 + 1) two frame) (does codes f rest (pc + 1) one frame (Bin Add (r + 1) r (r + 1)) s.1.0)
-      (subst (λ u. Runs codes n (Asks (action.Load u true) behind) (at_here (pc + 1 + 1) two frame)) at_r
-      (wants codes n (action.Load (two r) true) behind _ (λ x. at_here (pc + 1 + 1 + 1) (put two r x) frame) (does codes f rest (pc + 1 + 1) two frame (Load true r r) s.1.1.0)
-      (λ x ltx.
-      let three : ℕ → ℕ = put two r x in
-      let at_high : three (r + 1) ≡ (a + 2) % 65536 = put_other two r x (r + 1) (λ e. omega arith) ∙ put_same one (r + 1) second ∙ second_is in
-      subst (λ u. Runs codes n (Asks (action.Load u true) (all x)) (at_here (pc + 1 + 1 + 1) three frame)) at_high
-      (wants codes n (action.Load (three (r + 1)) true) (all x) _ (λ y. at_here (pc + 1 + 1 + 1 + 1) (put three (r + 1) y) frame) (does codes f rest (pc + 1 + 1 + 1) three frame (Load true (r + 1) (r + 1)) s.1.1.1.0)
-      (λ y lty.
-      let v : ℤ = wrapped U32 (pos (x + 65536 * y)) in
-      let four : ℕ → ℕ = put three (r + 1) y in
-      let rest_is : residue 32 v ≡ x + 65536 * y = rest_wrapped U32 tt (pos (x + 65536 * y)) ∙ rest_of_halves x y ltx lty in
-      at_end codes f rest n (after v env) (pc + 1 + 1 + 1 + 1) end four frame s.1.1.1.1
-      (next v env four frame (record {
-        holds = holds_put base p types spots env three frame (r + 1) y (omega arith) (holds_put base p types spots env two frame r x le (holds_put base p types spots env one frame (r + 1) second (omega arith) (holds_put base p types spots env values frame (r + 1) 2 (omega arith) h)));
-        keeps = keeps_put base r (r + 1) y first three (omega arith) (keeps_put base r r x first two (omega arith) (keeps_put base r (r + 1) second first one (omega arith) (keeps_put base r (r + 1) 2 first values (omega arith) k)));
-        is = record {
-          number = wrapped_again U32 (pos (x + 65536 * y));
-          low_half = put_other three (r + 1) y r (λ e. omega arith) ∙ put_same two r x ∙ sym (low_of_rest v ∙ ap (λ m. m % 65536) rest_is ∙ low_of_halves x y ltx);
-          high_half = put_same three (r + 1) y ∙ sym (ap (λ m. m / 65536) rest_is ∙ high_of_halves x y ltx);
-        };
-      }))))))))
-  wide_load_runs I8 a r pc end after env first values frame ok le e s h k next = absurd ok
-  wide_load_runs U8 a r pc end after env first values frame ok le e s h k next = absurd ok
-  wide_load_runs I16 a r pc end after env first values frame ok le e s h k next = absurd ok
-  wide_load_runs U16 a r pc end after env first values frame ok le e s h k next = absurd ok
-
-  -- ---- what is written to memory, of 32 bits, the low half first
-
-  pub wide_store_runs : (t : IntType) (a : ℕ) (v : ℤ) (r pc end : ℕ) (after : ℤ → Locals → Behaviour) (env : Locals) (first values frame : ℕ → ℕ) →
-      Is32Bits t → base ≤ r → values r ≡ a → IsHeld t v values (r + 2) →
-      Stands code pc (store_code t (r + 2) r ++ move_code (is_wide t) r (r + 2)) end →
-      Holds p types spots base env values frame → Keeps base r first values → Next (int t) r end first after →
-      Runs codes n (store (int t) (At a) v (λ _. after v) env) (at_here pc values frame)
-  wide_store_runs I32 a v r pc end after env first values frame ok le e held s h k next =
-      let low_v : values (r + 2) ≡ residue 32 v % 65536 = held.low_half ∙ low_of_rest v in
-      let last : Behaviour = Does (action.Store ((a + 2) % 65536) true (residue 32 v / 65536)) (after v env) in
-      let one : ℕ → ℕ = put values (r + 1) 2 in
-      let second : ℕ = operate Add (one r) (one (r + 1)) in
-      let two : ℕ → ℕ = put one (r + 1) second in
-      let at_one : one r ≡ a = put_other values (r + 1) 2 r (λ e. omega arith) ∙ e in
-      let second_is : two (r + 1) ≡ (a + 2) % 65536 = put_same one (r + 1) second ∙ ap (λ u. operate Add u (one (r + 1))) at_one ∙ ap (operate Add a) (put_same values (r + 1) 2) in
-      let high_v : two (r + 2 + 1) ≡ residue 32 v / 65536 = put_other one (r + 1) second (r + 2 + 1) (λ e. omega arith) ∙ put_other values (r + 1) 2 (r + 2 + 1) (λ e. omega arith) ∙ held.high_half in
-      let low_two : two (r + 2) ≡ low v = put_other one (r + 1) second (r + 2) (λ e. omega arith) ∙ put_other values (r + 1) 2 (r + 2) (λ e. omega arith) ∙ held.low_half in
-      let three : ℕ → ℕ = put two r (two (r + 2)) in
-      let x : ℕ = three (r + 2 + 1) in
-      let four : ℕ → ℕ = put three (r + 1) x in
-      let x_is : x ≡ high v = put_other two r (two (r + 2)) (r + 2 + 1) (λ e. omega arith) ∙ high_v in
-      subst (λ u. Runs codes n (Does (action.Store u true (residue 32 v % 65536)) last) (at_here pc values frame)) e
-      (subst (λ z. Runs codes n (Does (action.Store (values r) true z) last) (at_here pc values frame)) low_v
-      (acts_on codes n (action.Store (values r) true (values (r + 2))) last _ (at_here (pc + 1) values frame) (does codes f rest pc values frame (Store true (r + 2) r) s.0)
-      (goes codes n last _ (at_here (pc + 1 + 1) one frame) (does codes f rest (pc + 1) values frame (Set (r + 1) 2) s.1.0)
-      (goes codes n last _ (at_here (pc + 1 + 1 + 1) two frame) (does codes f rest (pc + 1 + 1) one frame (Bin Add (r + 1) r (r + 1)) s.1.1.0)
-      (subst (λ u. Runs codes n (Does (action.Store u true (residue 32 v / 65536)) (after v env)) (at_here (pc + 1 + 1 + 1) two frame)) second_is
-      (subst (λ z. Runs codes n (Does (action.Store (two (r + 1)) true z) (after v env)) (at_here (pc + 1 + 1 + 1) two frame)) high_v
-      (acts_on codes n (action.Store (two (r + 1)) true (two (r + 2 + 1))) (after v env) _ (at_here (pc + 1 + 1 + 1 + 1) two frame) (does codes f rest (pc + 1 + 1 + 1) two frame (Store true (r + 2 + 1) (r + 1)) s.1.1.1.0)
-      (goes codes n (after v env) _ (at_here (pc + 1 + 1 + 1 + 1 + 1) three frame) (does codes f rest (pc + 1 + 1 + 1 + 1) two frame (Move r (r + 2)) s.1.1.1.1.0)
-      (goes codes n (after v env) _ (at_here (pc + 1 + 1 + 1 + 1 + 1 + 1) four frame) (does codes f rest (pc + 1 + 1 + 1 + 1 + 1) three frame (Move (r + 1) (r + 2 + 1)) s.1.1.1.1.1.0)
-      (at_end codes f rest n (after v env) (pc + 1 + 1 + 1 + 1 + 1 + 1) end four frame s.1.1.1.1.1.1
-      (next v env four frame (record {
-        holds = holds_put base p types spots env three frame (r + 1) x (omega arith) (holds_put base p types spots env two frame r (two (r + 2)) le (holds_put base p types spots env one frame (r + 1) second (omega arith) (holds_put base p types spots env values frame (r + 1) 2 (omega arith) h)));
-        keeps = keeps_put base r (r + 1) x first three (omega arith) (keeps_put base r r (two (r + 2)) first two (omega arith) (keeps_put base r (r + 1) second first one (omega arith) (keeps_put base r (r + 1) 2 first values (omega arith) k)));
-        is = record {
-          number = held.number;
-          low_half = put_other three (r + 1) x r (λ e. omega arith) ∙ put_same two r (two (r + 2)) ∙ low_two;
-          high_half = put_same three (r + 1) x ∙ x_is;
-        };
-      }))))))))))))
-  wide_store_runs U32 a v r pc end after env first values frame ok le e held s h k next =
-      let low_v : values (r + 2) ≡ residue 32 v % 65536 = held.low_half ∙ low_of_rest v in
-      let last : Behaviour = Does (action.Store ((a + 2) % 65536) true (residue 32 v / 65536)) (after v env) in
-      let one : ℕ → ℕ = put values (r + 1) 2 in
-      let second : ℕ = operate Add (one r) (one (r + 1)) in
-      let two : ℕ → ℕ = put one (r + 1) second in
-      let at_one : one r ≡ a = put_other values (r + 1) 2 r (λ e. omega arith) ∙ e in
-      let second_is : two (r + 1) ≡ (a + 2) % 65536 = put_same one (r + 1) second ∙ ap (λ u. operate Add u (one (r + 1))) at_one ∙ ap (operate Add a) (put_same values (r + 1) 2) in
-      let high_v : two (r + 2 + 1) ≡ residue 32 v / 65536 = put_other one (r + 1) second (r + 2 + 1) (λ e. omega arith) ∙ put_other values (r + 1) 2 (r + 2 + 1) (λ e. omega arith) ∙ held.high_half in
-      let low_two : two (r + 2) ≡ low v = put_other one (r + 1) second (r + 2) (λ e. omega arith) ∙ put_other values (r + 1) 2 (r + 2) (λ e. omega arith) ∙ held.low_half in
-      let three : ℕ → ℕ = put two r (two (r + 2)) in
-      let x : ℕ = three (r + 2 + 1) in
-      let four : ℕ → ℕ = put three (r + 1) x in
-      let x_is : x ≡ high v = put_other two r (two (r + 2)) (r + 2 + 1) (λ e. omega arith) ∙ high_v in
-      subst (λ u. Runs codes n (Does (action.Store u true (residue 32 v % 65536)) last) (at_here pc values frame)) e
-      (subst (λ z. Runs codes n (Does (action.Store (values r) true z) last) (at_here pc values frame)) low_v
-      (acts_on codes n (action.Store (values r) true (values (r + 2))) last _ (at_here (pc + 1) values frame) (does codes f rest pc values frame (Store true (r + 2) r) s.0)
-      (goes codes n last _ (at_here (pc + 1 + 1) one frame) (does codes f rest (pc + 1) values frame (Set (r + 1) 2) s.1.0)
-      (goes codes n last _ (at_here (pc + 1 + 1 + 1) two frame) (does codes f rest (pc + 1 + 1) one frame (Bin Add (r + 1) r (r + 1)) s.1.1.0)
-      (subst (λ u. Runs codes n (Does (action.Store u true (residue 32 v / 65536)) (after v env)) (at_here (pc + 1 + 1 + 1) two frame)) second_is
-      (subst (λ z. Runs codes n (Does (action.Store (two (r + 1)) true z) (after v env)) (at_here (pc + 1 + 1 + 1) two frame)) high_v
-      (acts_on codes n (action.Store (two (r + 1)) true (two (r + 2 + 1))) (after v env) _ (at_here (pc + 1 + 1 + 1 + 1) two frame) (does codes f rest (pc + 1 + 1 + 1) two frame (Store true (r + 2 + 1) (r + 1)) s.1.1.1.0)
-      (goes codes n (after v env) _ (at_here (pc + 1 + 1 + 1 + 1 + 1) three frame) (does codes f rest (pc + 1 + 1 + 1 + 1) two frame (Move r (r + 2)) s.1.1.1.1.0)
-      (goes codes n (after v env) _ (at_here (pc + 1 + 1 + 1 + 1 + 1 + 1) four frame) (does codes f rest (pc + 1 + 1 + 1 + 1 + 1) three frame (Move (r + 1) (r + 2 + 1)) s.1.1.1.1.1.0)
-      (at_end codes f rest n (after v env) (pc + 1 + 1 + 1 + 1 + 1 + 1) end four frame s.1.1.1.1.1.1
-      (next v env four frame (record {
-        holds = holds_put base p types spots env three frame (r + 1) x (omega arith) (holds_put base p types spots env two frame r (two (r + 2)) le (holds_put base p types spots env one frame (r + 1) second (omega arith) (holds_put base p types spots env values frame (r + 1) 2 (omega arith) h)));
-        keeps = keeps_put base r (r + 1) x first three (omega arith) (keeps_put base r r (two (r + 2)) first two (omega arith) (keeps_put base r (r + 1) second first one (omega arith) (keeps_put base r (r + 1) 2 first values (omega arith) k)));
-        is = record {
-          number = held.number;
-          low_half = put_other three (r + 1) x r (λ e. omega arith) ∙ put_same two r (two (r + 2)) ∙ low_two;
-          high_half = put_same three (r + 1) x ∙ x_is;
-        };
-      }))))))))))))
-  wide_store_runs I8 a v r pc end after env first values frame ok le e held s h k next = absurd ok
-  wide_store_runs U8 a v r pc end after env first values frame ok le e held s h k next = absurd ok
-  wide_store_runs I16 a v r pc end after env first values frame ok le e held s h k next = absurd ok
-  wide_store_runs U16 a v r pc end after env first values frame ok le e held s h k next = absurd ok

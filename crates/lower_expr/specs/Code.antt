@@ -1,16 +1,17 @@
 -- The code of expressions and places: the value of an expression comes to r, and the high half of one of 32 bits to r + 1; a part that
 -- stands i places behind the first is evaluated at r + 2 * i; labels are those from l on (own; operands from left to right).
-use Rattle.std.specs.Prelude.{ℕ, suc, ◌+◌, Bool, true, false, List, [], ◌∷◌, ◌++◌, if◌then◌else◌, Option, Some, None, slice_get}
+use Rattle.std.specs.Prelude.{ℕ, suc, ◌+◌, Bool, true, false, List, [], ◌∷◌, ◌++◌, map, if◌then◌else◌, Option, Some, None, slice_get}
 use Rattle.nm_base.specs.declared.int_type.IntType.{IntType}
 use Rattle.nm_base.specs.declared.int_type.IntType.TheVariants.{I8, U8}
 use Rattle.nesc_core.specs.Plain.{Ty, Expr, Exprs, no_exprs, more_exprs, Place, Program}
 use Rattle.nesc_core.specs.Plain as plain
 use Rattle.nesc_core.specs.PlaceTypes.{place_type, element_of, count_of, field_offset}
-use Rattle.nesc_core.specs.Parts.{same_type}
+use Rattle.nesc_core.specs.Parts.{same_type, runs_of}
 use Rattle.mid_code.specs.declared.instr.Op.TheVariants.{Add}
 use Rattle.mid_code.specs.declared.instr.Test.TheVariants.{Eq, Ne}
 use Rattle.mid_code.specs.declared.instr.Mid.{Mid}
 use Rattle.mid_code.specs.declared.instr.Mid.TheVariants.{Set, Move, Bin, Load, Store, Peek, Poke, In, Out, Label, Jump, Call, Help, Post, Tick}
+use Rattle.mid_code.specs.declared.code.Check.{Check}
 use Rattle.mid_code.specs.Help.{first_check, is_wide}
 use Rattle.core_meaning.specs.Layout.{size_of, object_address}
 use Rattle.core_meaning.specs.Work.{number_of}
@@ -148,6 +149,10 @@ address_code _ r = Set r 0 ∷ []
 abbrev pub check_of : List Ty → Ty → ℕ
 check_of [] t = 0
 check_of (u ∷ us) t = if same_type u t then 0 else suc (check_of us t)
+
+-- the check that an address is one of a part of this type
+abbrev pub check_for : Program → Ty → Check
+check_for p t = record { size = size_of p t; runs = map (λ r. (r.first, r.count)) (runs_of p t) }
 
 abbrev pub is_void : Ty → Bool
 is_void plain.void = true

@@ -2,6 +2,5 @@ pub mod Held
 pub mod Pieces
 pub mod Code
 pub mod Locals
-pub mod Covered
 pub mod Runs
 pub mod Rows

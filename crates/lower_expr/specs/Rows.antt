@@ -3,17 +3,14 @@ use Rattle.std.specs.Prelude.{◌≡◌, ℕ, ◌+◌, List, [], ◌∷◌, ◌+
 use Rattle.nm_base.specs.declared.int_type.IntType.TheVariants.{U8}
 use Rattle.nm_base.specs.Behaviour.{Performed, performed}
 use Rattle.nesc_core.specs.Plain.{Ty, Stmt, Stmts, Body, Program, no_stmts, more_stmts, void, int, eval, block}
-use Rattle.nesc_core.specs.Parts.{runs_of}
-use Rattle.core_meaning.specs.Layout.{size_of}
 use Rattle.core_meaning.specs.Rows as source
 use Rattle.mid_code.specs.declared.instr.Mid.{Mid}
 use Rattle.mid_code.specs.declared.instr.Mid.TheVariants.{Ret}
-use Rattle.mid_code.specs.declared.code.Check.{Check}
 use Rattle.mid_code.specs.declared.code.MidCode.{MidCode}
 use Rattle.mid_code.specs.Machine.{started, steps}
 use Rattle.lower_expr.specs.declared.spot.Spot.{Spot}
 use Rattle.lower_expr.specs.declared.spot.Spot.TheVariants.{Values}
-use Rattle.lower_expr.specs.Code.{expr_code, labels}
+use Rattle.lower_expr.specs.Code.{check_for, expr_code, labels}
 
 -- ---- a body of expressions alone, whose locals are 0 at its start
 
@@ -29,9 +26,6 @@ module _ (p : Program) (types checks : List Ty) (spots : List Spot) (base : ℕ)
 
 abbrev pub no_body : Body
 no_body = source.function [] void []
-
-abbrev pub check_for : Program → Ty → Check
-check_for p t = record { size = size_of p t; runs = map (λ r. (r.first, r.count)) (runs_of p t) }
 
 -- body 0, with locals in these spots, and values from `base` on free
 abbrev pub lowered : Program → (checks : List Ty) → List Spot → (base frame : ℕ) → MidCode

@@ -1,17 +1,23 @@
 -- That the code of an expression does what the expression does (own).
-use Rattle.std.specs.Prelude.{◌≡◌, ℕ, ℤ, ◌<◌, ◌≤◌, List, ◌∷◌}
+use Rattle.std.specs.Prelude.{◌≡◌, ℕ, ℤ, ◌<◌, ◌≤◌, List, [], ◌∷◌, ◌++◌, length, map, take, if◌then◌else◌, Some, slice_get}
+use Rattle.std.specs.List.{All}
+use Rattle.nm_base.specs.IntType.{wrapped}
 use Rattle.nm_base.specs.Behaviour.{Behaviour}
-use Rattle.nesc_core.specs.Plain.{Ty, Expr, Program}
+use Rattle.nesc_core.specs.Plain.{Ty, Expr, Body, Program}
 use Rattle.nesc_core.specs.Typing.{Has}
-use Rattle.core_meaning.specs.Work.{Locals}
+use Rattle.nesc_core.specs.WellFormed.{IsWellFormed}
+use Rattle.nesc_core.specs.Derefs.{expr_derefs}
+use Rattle.nesc_core.specs.Calls.{expr_calls}
+use Rattle.core_meaning.specs.Work.{Locals, number_of}
 use Rattle.core_meaning.specs.Act.{Calls, value}
 use Rattle.mid_code.specs.declared.code.MidCode.{MidCode}
-use Rattle.mid_code.specs.Machine.{Activation, fn_of}
+use Rattle.mid_code.specs.Help.{is_wide}
+use Rattle.mid_code.specs.Machine.{Activation, entry, fn_of, give_back, step}
 use Rattle.mid_code.specs.Runs.{IsLabelled, Runs, Stands}
 use Rattle.lower_expr.specs.declared.spot.Spot.{Spot}
-use Rattle.lower_expr.specs.Code.{expr_code}
-use Rattle.lower_expr.specs.Covered.{IsCovered}
-use Rattle.lower_expr.specs.Locals.{Holds, IsResult}
+use Rattle.lower_expr.specs.Held.{halves_of}
+use Rattle.lower_expr.specs.Code.{check_for, check_of, expr_code, is_void}
+use Rattle.lower_expr.specs.Locals.{Holds, IsResult, LieApart}
 
 -- the values from `base` to r are as they were
 pub record Keeps (base r : ℕ) (old new : ℕ → ℕ) : Type 0 where
@@ -27,12 +33,53 @@ pub record After (p : Program) (types : List Ty) (spots : List Spot) (base : ℕ
 abbrev pub at_place : (f : ℕ) → List Activation → ℕ → (values frame : ℕ → ℕ) → List Activation
 at_place f rest pc values frame = record { f = f; at = pc; values = values; frame = frame } ∷ rest
 
+-- the code of a function of a program, whose locals have these types and spots, and the checks of pointers to these types
+pub record Fits (codes : MidCode) (f : ℕ) (p : Program) (types checks : List Ty) (spots : List Spot) : Type 0 where
+  pub labelled : IsLabelled (fn_of codes f).code
+  pub formed : IsWellFormed p
+  pub checked : codes.checks ≡ map (check_for p) checks
+  pub lie : LieApart p types spots (fn_of codes f).frame
+
+-- ---- calls
+
+-- the values that pass numbers of these types
+abbrev pub passed : List Ty → List ℤ → List ℕ
+passed [] vs = []
+passed (t ∷ ts) [] = []
+passed (t ∷ ts) (v ∷ vs) = halves_of (is_wide (number_of t)) v ++ passed ts vs
+
+-- the values that give back a result
+abbrev pub given : Ty → ℤ → List ℕ
+given t v = if is_void t then [] else halves_of (is_wide (number_of t)) v
+
+abbrev pub IsOf : Ty → ℤ → Type 0
+IsOf t v = wrapped (number_of t) v ≡ v
+
+-- one number of each type
+abbrev pub AreOf : List Ty → List ℤ → Type 0
+AreOf [] [] = Unit {0}
+AreOf [] (v ∷ vs) = ⊥
+AreOf (t ∷ ts) [] = ⊥
+AreOf (t ∷ ts) (v ∷ vs) = IsOf t v × AreOf ts vs
+
+-- each function whose body has a rank below this one does what the body does, over any calls, and gives back its result
+pub record CallsRun (codes : MidCode) (n : ℕ) (p : Program) (rank : ℕ → ℕ) (below : ℕ) (calls : Calls) : Type 0 where
+  pub by : (g : ℕ) (b : Body) (vs : List ℤ) (after : ℤ → Behaviour) (under : List Activation) →
+      slice_get p.bodies g ≡ Some b → rank g < below → AreOf (take b.params b.locals) vs →
+      ((v : ℤ) (s : List Activation) → IsOf b.result v → step codes s ≡ give_back codes under (given b.result v) → Runs codes n (after v) s) →
+      Runs codes n (calls g vs after) (entry codes g (passed (take b.params b.locals) vs) ∷ under)
+
+-- these types are among those of the checks, and these functions have ranks below this one
+pub record IsReady (checks : List Ty) (rank : ℕ → ℕ) (below : ℕ) (dereferenced : List Ty) (called : List ℕ) : Type 0 where
+  pub checked : All (λ t. check_of checks t < length checks) dereferenced
+  pub lower : All (λ g. rank g < below) called
+
 -- wherever the code of an expression stands, with values that hold the locals, and what comes after it runs behind it, the expression runs
 abbrev pub ExpressionsRun : Type 0
 ExpressionsRun =
-    (codes : MidCode) (f : ℕ) (rest : List Activation) (n : ℕ) (p : Program) (types checks : List Ty) (spots : List Spot) (base : ℕ) (calls : Calls)
-    (e : Expr) (ty : Ty) (r l pc end : ℕ) (after : ℤ → Locals → Behaviour) (env : Locals) (values frame : ℕ → ℕ) →
-    IsLabelled (fn_of codes f).code → base ≤ r → Has p types e ty → IsCovered p types spots e →
+    (codes : MidCode) (f : ℕ) (rest : List Activation) (n : ℕ) (p : Program) (types checks : List Ty) (spots : List Spot) (base : ℕ)
+    (rank : ℕ → ℕ) (below : ℕ) (calls : Calls) (e : Expr) (ty : Ty) (r l pc end : ℕ) (after : ℤ → Locals → Behaviour) (env : Locals) (values frame : ℕ → ℕ) →
+    Fits codes f p types checks spots → CallsRun codes n p rank below calls → base ≤ r → Has p types e ty → IsReady checks rank below (expr_derefs e) (expr_calls e) →
     Stands (fn_of codes f).code pc (expr_code p types checks spots e r l) end → Holds p types spots base env values frame →
     ((v : ℤ) (env' : Locals) (values' frame' : ℕ → ℕ) → After p types spots base ty r values v env' values' frame' → Runs codes n (after v env') (at_place f rest end values' frame')) →
     Runs codes n (value p types calls e after env) (at_place f rest pc values frame)

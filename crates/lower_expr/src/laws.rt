@@ -3,8 +3,8 @@
 ghost use Rattle.lower_expr.specs.Runs.{ExpressionsRun};
 
 /// From wherever the code of an expression stands, with values that hold the locals, the machine does exactly what the expression
-/// does in the source, for every list of answers, and goes on behind it with the result in its values. So far of the expressions
-/// that `IsCovered` names.
+/// does in the source, for every list of answers, and goes on behind it with the result in its values: every expression that has a
+/// type, in a well-formed program whose called functions do what their bodies do.
 pub fn expressions_run()
     ensures { ExpressionsRun }
 {}
