@@ -15,4 +15,15 @@ returns c = record {
   padding = refl;
   post_answered = refl;
   elements_between = refl;
+  long_row = refl;
+  long_numbers_agree = refl;
+  frame_row = refl;
+  frame_agrees = refl;
+  updated_row = refl;
+  updated_agrees = refl;
+  stepping_row = refl;
+  stepping_agrees = refl;
+  wrong_part = refl;
+  call_row = refl;
+  call_agrees = refl;
 }
