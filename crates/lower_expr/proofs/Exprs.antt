@@ -36,7 +36,7 @@ use Rattle.mid_code.proofs.Stands.{does, at_end, jump_runs, split}
 use Rattle.mid_code.proofs.Written.{put_same}
 use Rattle.lower_expr.specs.declared.spot.Spot.{Spot}
 use Rattle.lower_expr.specs.Held.{held, halves_of, result_of, IsHeld, IsHighHeld, low}
-use Rattle.lower_expr.specs.Runs.{After, AreOf, CallsRun, Fits, IsReady, Keeps, passed}
+use Rattle.lower_expr.specs.Runs.{After, AfterArguments, CallsRun, Fits, IsReady, Keeps}
 use Rattle.lower_expr.specs.Locals.{Holds, IsResult}
 use Rattle.lower_expr.specs.Code.{Kind, labels, place_labels, fetch_code, put_code, address_code, expr_code, place_code, args_code, passed_at, kind_of, check_of, taken_at}
 use Rattle.lower_expr.specs.Pieces.{binary_code, convert_code, distance_code, element_code, offset_code, truth_code, zero_code, move_code, values_at}
@@ -162,15 +162,8 @@ module _ (codes : MidCode) (f : ℕ) (rest : List Activation) (n : ℕ) (p : Pro
       let b = both_of (λ g. rank g < below) gs hs h.lower in
       (record { checked = a.0; lower = b.0 }, record { checked = a.1; lower = b.1 })
 
-  -- what stands behind the code of arguments
-  record AfterArgs (es : Exprs) (ts : List Ty) (r : ℕ) (old : ℕ → ℕ) (vs : List ℤ) (env : Locals) (values frame : ℕ → ℕ) : Type 0 where
-    holds : Holds p types spots base env values frame
-    keeps : Keeps base r old values
-    of : AreOf ts vs
-    pass : map values (passed_at p types checks spots es r) ≡ passed ts vs
-
   abbrev BehindArgs : Exprs → List Ty → (r end : ℕ) → (ℕ → ℕ) → (List ℤ → Locals → Behaviour) → Type 0
-  BehindArgs es ts r end old after = (vs : List ℤ) (env : Locals) (values frame : ℕ → ℕ) → AfterArgs es ts r old vs env values frame → Runs codes n (after vs env) (here end values frame)
+  BehindArgs es ts r end old after = (vs : List ℤ) (env : Locals) (values frame : ℕ → ℕ) → AfterArguments p types checks spots base es ts r old vs env values frame → Runs codes n (after vs env) (here end values frame)
 
   null_is : (ty : Ty) → IsPointer p.structs ty → (values : ℕ → ℕ) (r : ℕ) → IsResult ty (pos 0) (put values r 0) r
   null_is void h values r = absurd h
@@ -315,7 +308,7 @@ module _ (codes : MidCode) (f : ℕ) (rest : List Activation) (n : ℕ) (p : Pro
         place_runs place r l pc s1.0 (λ w. after (moved w (field_offset p.structs whole k))) env values frame le typed.1 ready s1.1 h
         (λ w env1 values1 frame1 h1. field_runs codes f rest labelled n p types spots base (kind_at place) whole k w r s1.0 end after env1 values values1 frame1 le fits.formed.structs fits.lie typed.0 h1.found s1.2 h1.holds h1.keeps next)
 
-    args_runs : (es : Exprs) (ts : List Ty) (r l pc end : ℕ) (after : List ℤ → Locals → Behaviour) (env : Locals) (values frame : ℕ → ℕ) →
+    pub args_runs : (es : Exprs) (ts : List Ty) (r l pc end : ℕ) (after : List ℤ → Locals → Behaviour) (env : Locals) (values frame : ℕ → ℕ) →
         base ≤ r → AllHave p types es ts → All IsScalar ts → Ready (exprs_derefs es) (exprs_calls es) → Stands code pc (args_code p types checks spots es r l) end → Holds p types spots base env values frame →
         BehindArgs es ts r end values after → Runs codes n (values_of p types calls es after env) (here pc values frame)
     args_runs no_exprs [] r l pc end after env values frame le typed scalars ready s h next =

@@ -3,20 +3,20 @@ use Rattle.std.specs.Prelude.{◌≡◌, ℕ, ℤ, ◌<◌, ◌≤◌, List, [],
 use Rattle.std.specs.List.{All}
 use Rattle.nm_base.specs.IntType.{wrapped}
 use Rattle.nm_base.specs.Behaviour.{Behaviour}
-use Rattle.nesc_core.specs.Plain.{Ty, Expr, Body, Program}
-use Rattle.nesc_core.specs.Typing.{Has}
+use Rattle.nesc_core.specs.Plain.{Ty, Expr, Exprs, Body, Program}
+use Rattle.nesc_core.specs.Typing.{AllHave, Has, IsScalar}
 use Rattle.nesc_core.specs.WellFormed.{IsWellFormed}
-use Rattle.nesc_core.specs.Derefs.{expr_derefs}
-use Rattle.nesc_core.specs.Calls.{expr_calls}
+use Rattle.nesc_core.specs.Derefs.{expr_derefs, exprs_derefs}
+use Rattle.nesc_core.specs.Calls.{expr_calls, exprs_calls}
 use Rattle.core_meaning.specs.Work.{Locals, number_of}
-use Rattle.core_meaning.specs.Act.{Calls, value}
+use Rattle.core_meaning.specs.Act.{Calls, value, values as values_of}
 use Rattle.mid_code.specs.declared.code.MidCode.{MidCode}
 use Rattle.mid_code.specs.Help.{is_wide}
 use Rattle.mid_code.specs.Machine.{Activation, entry, fn_of, give_back, step}
 use Rattle.mid_code.specs.Runs.{IsLabelled, Runs, Stands}
 use Rattle.lower_expr.specs.declared.spot.Spot.{Spot}
 use Rattle.lower_expr.specs.Held.{halves_of}
-use Rattle.lower_expr.specs.Code.{check_for, check_of, expr_code, is_void}
+use Rattle.lower_expr.specs.Code.{args_code, check_for, check_of, expr_code, is_void, passed_at}
 use Rattle.lower_expr.specs.Locals.{Holds, IsResult, LieApart}
 
 -- the values from `base` to r are as they were
@@ -74,6 +74,13 @@ pub record IsReady (checks : List Ty) (rank : ℕ → ℕ) (below : ℕ) (derefe
   pub checked : All (λ t. check_of checks t < length checks) dereferenced
   pub lower : All (λ g. rank g < below) called
 
+-- what stands behind the code of arguments for parameters of these types
+pub record AfterArguments (p : Program) (types checks : List Ty) (spots : List Spot) (base : ℕ) (es : Exprs) (params : List Ty) (r : ℕ) (old : ℕ → ℕ) (vs : List ℤ) (env : Locals) (values frame : ℕ → ℕ) : Type 0 where
+  pub holds : Holds p types spots base env values frame
+  pub keeps : Keeps base r old values
+  pub of : AreOf params vs
+  pub pass : map values (passed_at p types checks spots es r) ≡ passed params vs
+
 -- wherever the code of an expression stands, with values that hold the locals, and what comes after it runs behind it, the expression runs
 abbrev pub ExpressionsRun : Type 0
 ExpressionsRun =
@@ -83,3 +90,13 @@ ExpressionsRun =
     Stands (fn_of codes f).code pc (expr_code p types checks spots e r l) end → Holds p types spots base env values frame →
     ((v : ℤ) (env' : Locals) (values' frame' : ℕ → ℕ) → After p types spots base ty r values v env' values' frame' → Runs codes n (after v env') (at_place f rest end values' frame')) →
     Runs codes n (value p types calls e after env) (at_place f rest pc values frame)
+
+-- the same of arguments, one behind the other
+abbrev pub ArgumentsRun : Type 0
+ArgumentsRun =
+    (codes : MidCode) (f : ℕ) (rest : List Activation) (n : ℕ) (p : Program) (types checks : List Ty) (spots : List Spot) (base : ℕ)
+    (rank : ℕ → ℕ) (below : ℕ) (calls : Calls) (es : Exprs) (params : List Ty) (r l pc end : ℕ) (after : List ℤ → Locals → Behaviour) (env : Locals) (values frame : ℕ → ℕ) →
+    Fits codes f p types checks spots → CallsRun codes n p rank below calls → base ≤ r → AllHave p types es params → All IsScalar params → IsReady checks rank below (exprs_derefs es) (exprs_calls es) →
+    Stands (fn_of codes f).code pc (args_code p types checks spots es r l) end → Holds p types spots base env values frame →
+    ((vs : List ℤ) (env' : Locals) (values' frame' : ℕ → ℕ) → AfterArguments p types checks spots base es params r values vs env' values' frame' → Runs codes n (after vs env') (at_place f rest end values' frame')) →
+    Runs codes n (values_of p types calls es after env) (at_place f rest pc values frame)

@@ -5,6 +5,6 @@ mod laws;
 mod rows;
 mod spot;
 
-pub use laws::expressions_run;
+pub use laws::{arguments_run, expressions_run};
 pub use rows::worked_rows;
 pub use spot::{Regs, Spot};
