@@ -55,9 +55,6 @@ rest_is (negsuc a) = (negsuc (a / 4294967296), omega (arith, ints))
 
 -- ---- sums and differences
 
-abbrev sum_of : ℕ → ℕ → ℕ
-sum_of x y = (x + y) % 65536
-
 pub low_sum : (x y : ℤ) → low (x +ℤ y) ≡ (low x + low y) % 65536
 low_sum x y =
     let a = low_is x in
@@ -76,9 +73,6 @@ low_difference x y =
     unique16 (x -ℤ y) ((low x + (65536 - low y)) % 65536) (a.0 -ℤ b.0 +ℤ pos ((low x + (65536 - low y)) / 65536) -ℤ pos 1) (omega arith) (omega (arith, ints, ea, eb, s))
 
 -- ---- what is wrapped at 16 bits keeps its low half
-
-abbrev IsNarrow : IntType → Type 0
-IsNarrow t = is_wide t ≡ false
 
 abbrev pub Is16Bits : IntType → Type 0
 Is16Bits I16 = Unit {0}
@@ -269,9 +263,6 @@ xor_word x y = xor_of_16 (low x) (low y) (low_small x) (low_small y)
 pub low_of_rest : (z : ℤ) → low z ≡ residue 32 z % 65536
 low_of_rest (pos a) = omega arith
 low_of_rest (negsuc a) = omega arith
-
-pub abbrev_high : (z : ℤ) → high z ≡ residue 32 z / 65536
-abbrev_high z = refl
 
 congruent32 : (x y k : ℤ) → x ≡ y +ℤ k *ℤ pos 4294967296 → residue 32 y ≡ residue 32 x
 congruent32 x y k e =

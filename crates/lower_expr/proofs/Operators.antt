@@ -60,14 +60,14 @@ module _ (codes : MidCode) (f : ℕ) (rest : List Activation) (labelled : IsLabe
       IsPromoted t → base ≤ r → IsHeld t x values r → SecondHeld op t second y values (r + 2) → Stands code pc (binary_code op t second r l) end →
       Holds p types spots base env values frame → Keeps base r first values → Behind (int (binary_type op t)) r end first after →
       Runs codes n (or_fault 3 (binary op t x y) after env) (here pc values frame)
+  binary_runs op I8 second x y r l pc end after env first values frame ok le hx hy s h k next = absurd ok
+  binary_runs op U8 second x y r l pc end after env first values frame ok le hx hy s h k next = absurd ok
   binary_runs bin.Add I16 second x y r l pc end after env first values frame ok le hx hy s h k next =
       narrow_runs codes f rest labelled n p types spots base Add I16 x y (wrapped I16 (x +ℤ y)) r pc end after env first values frame le refl (wrapped_again I16 (x +ℤ y))
       (sym (low_sum x y) ∙ sym (low_wrapped I16 tt (x +ℤ y))) hx hy s h k next
   binary_runs bin.Add U16 second x y r l pc end after env first values frame ok le hx hy s h k next =
       narrow_runs codes f rest labelled n p types spots base Add U16 x y (wrapped U16 (x +ℤ y)) r pc end after env first values frame le refl (wrapped_again U16 (x +ℤ y))
       (sym (low_sum x y) ∙ sym (low_wrapped U16 tt (x +ℤ y))) hx hy s h k next
-  binary_runs bin.Add I8 second x y r l pc end after env first values frame ok le hx hy s h k next = absurd ok
-  binary_runs bin.Add U8 second x y r l pc end after env first values frame ok le hx hy s h k next = absurd ok
   binary_runs bin.Add I32 second x y r l pc end after env first values frame ok le hx hy s h k next =
       wide_sum_runs codes f rest labelled n p types spots base Add I32 x y (wrapped I32 (x +ℤ y)) r pc end after env first values frame le refl (wrapped_again I32 (x +ℤ y)) (wide_low_sum I32 tt x y) (high_sum I32 tt x y) hx hy s h k next
   binary_runs bin.Add U32 second x y r l pc end after env first values frame ok le hx hy s h k next =
@@ -78,8 +78,6 @@ module _ (codes : MidCode) (f : ℕ) (rest : List Activation) (labelled : IsLabe
   binary_runs bin.Sub U16 second x y r l pc end after env first values frame ok le hx hy s h k next =
       narrow_runs codes f rest labelled n p types spots base Sub U16 x y (wrapped U16 (x -ℤ y)) r pc end after env first values frame le refl (wrapped_again U16 (x -ℤ y))
       (sym (low_difference x y) ∙ sym (low_wrapped U16 tt (x -ℤ y))) hx hy s h k next
-  binary_runs bin.Sub I8 second x y r l pc end after env first values frame ok le hx hy s h k next = absurd ok
-  binary_runs bin.Sub U8 second x y r l pc end after env first values frame ok le hx hy s h k next = absurd ok
   binary_runs bin.Sub I32 second x y r l pc end after env first values frame ok le hx hy s h k next =
       wide_sum_runs codes f rest labelled n p types spots base Sub I32 x y (wrapped I32 (x -ℤ y)) r pc end after env first values frame le refl (wrapped_again I32 (x -ℤ y)) (wide_low_difference I32 tt x y) (high_difference I32 tt x y) hx hy s h k next
   binary_runs bin.Sub U32 second x y r l pc end after env first values frame ok le hx hy s h k next =
@@ -108,26 +106,18 @@ module _ (codes : MidCode) (f : ℕ) (rest : List Activation) (labelled : IsLabe
   binary_runs bin.Le I16 second x y r l pc end after env first values frame ok le hx hy s h k next =
       test_runs codes f rest labelled n p types spots base (not (int_lt y x)) test.Le r (r + 2) r l pc end after env first values frame le
       (ap not (ap (λ m. int_lt m (wrapped I16 (pos (values r)))) (ap (λ m. wrapped I16 (pos m)) hy.low_half ∙ number_of_low I16 tt y hy.number) ∙ ap (int_lt y) (ap (λ m. wrapped I16 (pos m)) hx.low_half ∙ number_of_low I16 tt x hx.number))) s h k next
-  binary_runs bin.Eq I8 second x y r l pc end after env first values frame ok le hx hy s h k next = absurd ok
-  binary_runs bin.Eq U8 second x y r l pc end after env first values frame ok le hx hy s h k next = absurd ok
   binary_runs bin.Eq I32 second x y r l pc end after env first values frame ok le hx hy s h k next =
       wide_equal_runs codes f rest labelled n p types spots base (int_eq x y) test.Eq I32 x y r l pc end after env first values frame le tt (equal_halves I32 tt x y hx.number hy.number) hx hy s h k next
   binary_runs bin.Eq U32 second x y r l pc end after env first values frame ok le hx hy s h k next =
       wide_equal_runs codes f rest labelled n p types spots base (int_eq x y) test.Eq U32 x y r l pc end after env first values frame le tt (equal_halves U32 tt x y hx.number hy.number) hx hy s h k next
-  binary_runs bin.Ne I8 second x y r l pc end after env first values frame ok le hx hy s h k next = absurd ok
-  binary_runs bin.Ne U8 second x y r l pc end after env first values frame ok le hx hy s h k next = absurd ok
   binary_runs bin.Ne I32 second x y r l pc end after env first values frame ok le hx hy s h k next =
       wide_equal_runs codes f rest labelled n p types spots base (not (int_eq x y)) test.Ne I32 x y r l pc end after env first values frame le tt (ap not (equal_halves I32 tt x y hx.number hy.number)) hx hy s h k next
   binary_runs bin.Ne U32 second x y r l pc end after env first values frame ok le hx hy s h k next =
       wide_equal_runs codes f rest labelled n p types spots base (not (int_eq x y)) test.Ne U32 x y r l pc end after env first values frame le tt (ap not (equal_halves U32 tt x y hx.number hy.number)) hx hy s h k next
-  binary_runs bin.Lt I8 second x y r l pc end after env first values frame ok le hx hy s h k next = absurd ok
-  binary_runs bin.Lt U8 second x y r l pc end after env first values frame ok le hx hy s h k next = absurd ok
   binary_runs bin.Lt I32 second x y r l pc end after env first values frame ok le hx hy s h k next =
       wide_order_runs codes f rest labelled n p types spots base (int_lt x y) test.Lt test.LtU I32 x y r l pc end after env first values frame le tt (wide_signed_less x y hx.number hy.number) hx hy s h k next
   binary_runs bin.Lt U32 second x y r l pc end after env first values frame ok le hx hy s h k next =
       wide_order_runs codes f rest labelled n p types spots base (int_lt x y) test.LtU test.LtU U32 x y r l pc end after env first values frame le tt (wide_less x y hx.number hy.number) hx hy s h k next
-  binary_runs bin.Le I8 second x y r l pc end after env first values frame ok le hx hy s h k next = absurd ok
-  binary_runs bin.Le U8 second x y r l pc end after env first values frame ok le hx hy s h k next = absurd ok
   binary_runs bin.Le I32 second x y r l pc end after env first values frame ok le hx hy s h k next =
       wide_order_runs codes f rest labelled n p types spots base (not (int_lt y x)) test.Lt test.LeU I32 x y r l pc end after env first values frame le tt (wide_signed_at_most x y hx.number hy.number) hx hy s h k next
   binary_runs bin.Le U32 second x y r l pc end after env first values frame ok le hx hy s h k next =
@@ -148,8 +138,6 @@ module _ (codes : MidCode) (f : ℕ) (rest : List Activation) (labelled : IsLabe
   binary_runs bin.And U16 second x y r l pc end after env first values frame ok le hx hy s h k next =
       narrow_runs codes f rest labelled n p types spots base And U16 x y (wrapped U16 (pos (bit_and (low x) (low y)))) r pc end after env first values frame le refl (wrapped_again U16 (pos (bit_and (low x) (low y))))
       (low_of_word U16 tt (bit_and (low x) (low y)) (and_word x y)) hx hy s h k next
-  binary_runs bin.And I8 second x y r l pc end after env first values frame ok le hx hy s h k next = absurd ok
-  binary_runs bin.And U8 second x y r l pc end after env first values frame ok le hx hy s h k next = absurd ok
   binary_runs bin.And I32 second x y r l pc end after env first values frame ok le hx hy s h k next =
       let is = and_halves I32 tt x y in
       wide_bits_runs codes f rest labelled n p types spots base And I32 x y (wrapped I32 (pos (bit_and (residue 32 x) (residue 32 y)))) r pc end after env first values frame le tt (wrapped_again I32 (pos (bit_and (residue 32 x) (residue 32 y)))) is.0 is.1 hx hy s h k next
@@ -162,8 +150,6 @@ module _ (codes : MidCode) (f : ℕ) (rest : List Activation) (labelled : IsLabe
   binary_runs bin.Or U16 second x y r l pc end after env first values frame ok le hx hy s h k next =
       narrow_runs codes f rest labelled n p types spots base Or U16 x y (wrapped U16 (pos (bit_or (low x) (low y)))) r pc end after env first values frame le refl (wrapped_again U16 (pos (bit_or (low x) (low y))))
       (low_of_word U16 tt (bit_or (low x) (low y)) (or_word x y)) hx hy s h k next
-  binary_runs bin.Or I8 second x y r l pc end after env first values frame ok le hx hy s h k next = absurd ok
-  binary_runs bin.Or U8 second x y r l pc end after env first values frame ok le hx hy s h k next = absurd ok
   binary_runs bin.Or I32 second x y r l pc end after env first values frame ok le hx hy s h k next =
       let is = or_halves I32 tt x y in
       wide_bits_runs codes f rest labelled n p types spots base Or I32 x y (wrapped I32 (pos (bit_or (residue 32 x) (residue 32 y)))) r pc end after env first values frame le tt (wrapped_again I32 (pos (bit_or (residue 32 x) (residue 32 y)))) is.0 is.1 hx hy s h k next
@@ -176,8 +162,6 @@ module _ (codes : MidCode) (f : ℕ) (rest : List Activation) (labelled : IsLabe
   binary_runs bin.Xor U16 second x y r l pc end after env first values frame ok le hx hy s h k next =
       narrow_runs codes f rest labelled n p types spots base Xor U16 x y (wrapped U16 (pos (bit_xor (low x) (low y)))) r pc end after env first values frame le refl (wrapped_again U16 (pos (bit_xor (low x) (low y))))
       (low_of_word U16 tt (bit_xor (low x) (low y)) (xor_word x y)) hx hy s h k next
-  binary_runs bin.Xor I8 second x y r l pc end after env first values frame ok le hx hy s h k next = absurd ok
-  binary_runs bin.Xor U8 second x y r l pc end after env first values frame ok le hx hy s h k next = absurd ok
   binary_runs bin.Xor I32 second x y r l pc end after env first values frame ok le hx hy s h k next =
       let is = xor_halves I32 tt x y in
       wide_bits_runs codes f rest labelled n p types spots base Xor I32 x y (wrapped I32 (pos (bit_xor (residue 32 x) (residue 32 y)))) r pc end after env first values frame le tt (wrapped_again I32 (pos (bit_xor (residue 32 x) (residue 32 y)))) is.0 is.1 hx hy s h k next

@@ -121,10 +121,6 @@ module _ (codes : MidCode) (f : ℕ) (rest : List Activation) (labels : IsLabell
   pub label_runs : (b : Behaviour) (l pc : ℕ) (values frame : ℕ → ℕ) → slice_get code pc ≡ Some (Label l) → Runs codes n b (at_here (pc + 1) values frame) → Runs codes n b (at_here pc values frame)
   label_runs b l pc values frame at h = goes codes n b _ _ (does codes f rest pc values frame (Label l) at) h
 
-  truth_small : (b : Bool) → wrapped I16 (truth b) ≡ truth b
-  truth_small true = refl
-  truth_small false = refl
-
   -- 1 where the test holds, else 0
   pub test_runs : (b : Bool) (test : Test) (x y r l pc end : ℕ) (after : ℤ → Locals → Behaviour) (env : Locals) (first values frame : ℕ → ℕ) →
       base ≤ r → holds test (values x) (values y) ≡ b → Stands code pc (Branch test x y l ∷ truth_code r l) end →
