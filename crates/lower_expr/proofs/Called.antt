@@ -7,7 +7,7 @@ use Rattle.nm_base.specs.IntType.{wrapped}
 use Rattle.nm_base.specs.declared.action.Action.TheVariants as action
 use Rattle.nm_base.specs.Behaviour.{Behaviour, Does}
 use Rattle.nesc_core.specs.Plain.{Ty, void, int, pointer, array, struct, Body, Program}
-use Rattle.nesc_core.specs.Typing.{IsCallable, IsScalar}
+use Rattle.nesc_core.specs.Typing.{IsOf}
 use Rattle.nesc_core.specs.Typing as typing
 use Rattle.nesc_core.specs.WellFormed.{IsBody, IsWellFormed}
 use Rattle.core_meaning.specs.Work.{Locals, number_of}
@@ -23,7 +23,7 @@ use Rattle.mid_code.proofs.Stands.{does, at_end}
 use Rattle.mid_code.proofs.Written.{put_same, put_other}
 use Rattle.lower_expr.specs.declared.spot.Spot.{Spot}
 use Rattle.lower_expr.specs.Held.{IsHeld, IsHighHeld, halves_of, high, low}
-use Rattle.lower_expr.specs.Runs.{CallsRun, IsOf, AreOf, Keeps, given, passed}
+use Rattle.lower_expr.specs.Runs.{CallsRun, AreOf, Keeps, given, passed}
 use Rattle.lower_expr.specs.Locals.{Holds, IsResult}
 use Rattle.lower_expr.specs.Pieces.{values_at}
 use Rattle.lower_expr.specs.Code.{is_void, taken_at}
@@ -55,7 +55,7 @@ taken true t v old r wide number = record {
   high_half = subst (λ b. IsHighHeld b v (put (put old r (low v)) (r + 1) (high v)) (r + 1)) (sym wide) (put_same (put old r (low v)) (r + 1) (high v));
 }
 
-taken_result : (ty : Ty) (v : ℤ) (old : ℕ → ℕ) (r : ℕ) → typing.IsResult ty → IsOf ty v → IsResult ty v (put_all old (taken_at ty r) (given ty v)) r
+taken_result : (ty : Ty) (v : ℤ) (old : ℕ → ℕ) (r : ℕ) → typing.IsResult ty → IsOf (number_of ty) v → IsResult ty v (put_all old (taken_at ty r) (given ty v)) r
 taken_result void v old r ok number = tt
 taken_result (int t) v old r ok number = taken (is_wide t) t v old r refl number
 taken_result (pointer t) v old r ok number = taken false _ v old r refl number

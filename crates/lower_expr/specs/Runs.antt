@@ -1,10 +1,9 @@
 -- That the code of an expression does what the expression does (own).
 use Rattle.std.specs.Prelude.{◌≡◌, ℕ, ℤ, ◌<◌, ◌≤◌, List, [], ◌∷◌, ◌++◌, length, map, take, if◌then◌else◌, Some, slice_get}
 use Rattle.std.specs.List.{All}
-use Rattle.nm_base.specs.IntType.{wrapped}
 use Rattle.nm_base.specs.Behaviour.{Behaviour}
 use Rattle.nesc_core.specs.Plain.{Ty, Expr, Exprs, Body, Program}
-use Rattle.nesc_core.specs.Typing.{AllHave, Has, IsScalar}
+use Rattle.nesc_core.specs.Typing.{AllHave, Has, IsOf, IsScalar}
 use Rattle.nesc_core.specs.WellFormed.{IsWellFormed}
 use Rattle.nesc_core.specs.Derefs.{expr_derefs, exprs_derefs}
 use Rattle.nesc_core.specs.Calls.{expr_calls, exprs_calls}
@@ -52,21 +51,18 @@ passed (t ∷ ts) (v ∷ vs) = halves_of (is_wide (number_of t)) v ++ passed ts 
 abbrev pub given : Ty → ℤ → List ℕ
 given t v = if is_void t then [] else halves_of (is_wide (number_of t)) v
 
-abbrev pub IsOf : Ty → ℤ → Type 0
-IsOf t v = wrapped (number_of t) v ≡ v
-
 -- one number of each type
 abbrev pub AreOf : List Ty → List ℤ → Type 0
 AreOf [] [] = Unit {0}
 AreOf [] (v ∷ vs) = ⊥
 AreOf (t ∷ ts) [] = ⊥
-AreOf (t ∷ ts) (v ∷ vs) = IsOf t v × AreOf ts vs
+AreOf (t ∷ ts) (v ∷ vs) = IsOf (number_of t) v × AreOf ts vs
 
 -- each function whose body has a rank below this one does what the body does, over any calls, and gives back its result
 pub record CallsRun (codes : MidCode) (n : ℕ) (p : Program) (rank : ℕ → ℕ) (below : ℕ) (calls : Calls) : Type 0 where
   pub by : (g : ℕ) (b : Body) (vs : List ℤ) (after : ℤ → Behaviour) (under : List Activation) →
       slice_get p.bodies g ≡ Some b → rank g < below → AreOf (take b.params b.locals) vs →
-      ((v : ℤ) (s : List Activation) → IsOf b.result v → step codes s ≡ give_back codes under (given b.result v) → Runs codes n (after v) s) →
+      ((v : ℤ) (s : List Activation) → IsOf (number_of b.result) v → step codes s ≡ give_back codes under (given b.result v) → Runs codes n (after v) s) →
       Runs codes n (calls g vs after) (entry codes g (passed (take b.params b.locals) vs) ∷ under)
 
 -- these types are among those of the checks, and these functions have ranks below this one
