@@ -1,0 +1,6 @@
+pub mod Open
+pub mod Body
+pub mod Stands
+pub mod Homes
+pub mod Swift
+pub mod Rows
