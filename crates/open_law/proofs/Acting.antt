@@ -1,5 +1,5 @@
 -- Instructions that make an action.
-use Rattle.std.proofs.Common.{Option, Some, ◌≡◌, ◌≢◌, ℕ, zero, suc, ◌+◌, ◌%◌, ◌<◌, ◌≤◌, ◌==◌, true, false, List, [], ◌∷◌, ◌++◌, refl, ap, ◌∙◌, arith}
+use Rattle.std.proofs.Common.{Option, Some, ◌≡◌, ◌≢◌, ℕ, zero, suc, ◌+◌, ◌%◌, ◌<◌, ◌≤◌, ◌==◌, Bool, true, false, List, [], ◌∷◌, ◌++◌, refl, ap, ◌∙◌, arith}
 use Rattle.std.proofs.lemmas.Bool.Decides.{nat_tests}
 use Rattle.nm_base.specs.Lists.{bit}
 use Rattle.msp_isa.specs.declared.instr.Op2.TheVariants as op2
@@ -10,11 +10,11 @@ use Rattle.msp430_cpu.specs.Cpu.{Cpu, wrap16, reg}
 use Rattle.msp430_cpu.specs.Bus.{Bus}
 use Rattle.msp430_cpu.specs.Exec.{AtAddress, place_of, ran, further, told, gated}
 use Rattle.msp430_cpu.specs.Memory.{is_ram, is_port, word_at, with_word_at}
-use Rattle.open_law.specs.Homes.{InRegister, Source, Of, Number, operand_of, IsWord, IsPort}
+use Rattle.open_law.specs.Homes.{Home, InRegister, Source, Of, Number, at_home, operand_of, IsByte, IsWord, IsPort}
 use Rattle.open_law.specs.Open.{AreWordOuts, Logged, Moment, IsMoment, is_data, logged_bus, logged_write, logged_read}
 use Rattle.msp_isa.specs.Stands.{word_in, IsAt}
 use Rattle.open_law.proofs.View.{View, even_at, cpu_of, memory_of, state_of, Fits, Leads, IsRoom, runs, behind, word_bytes}
-use Rattle.open_law.proofs.Quiet.{Has, put_home, passed, few, sourced, after_source, put_source, lands, kept_above, reg_plain}
+use Rattle.open_law.proofs.Quiet.{Has, IsHome, little, put_home, passed, few, sourced, after_source, put_source, lands, kept_above, reg_plain}
 use Rattle.nm_base.specs.declared.action.Action.{Action}
 use Rattle.nm_base.specs.declared.action.Action.TheVariants as action
 
@@ -43,6 +43,12 @@ module _ (image : ℕ → ℕ) (data_end top : ℕ) (now : Moment) where
     pub small : answer < 0x10000
     pub leads : Leads image data_end top now v (w answer) others ram
 
+  -- the same for a byte
+  pub record GetsByte (v : View) (w : ℕ → View) (others : List ℕ) (ram : ℕ → ℕ) : Type 0 where
+    pub answer : ℕ
+    pub small : answer < 0x100
+    pub leads : Leads image data_end top now v (w answer) others ram
+
   data_word : (v : View) (ram : ℕ → ℕ) (a : ℕ) → IsRoom data_end top v → IsWord data_end a →
       logged_read data_end now.answer (memory_of image v ram) a true ≡ (word_in ram a, memory_of image (noted_got v (action.Load a true) (word_in ram a)) ram)
   data_word v ram a room word =
@@ -55,24 +61,22 @@ module _ (image : ℕ → ℕ) (data_end top : ℕ) (now : Moment) where
       let value : word_at (memory_of image v ram) a ≡ word_in ram a = rw (e, r, r') refl in
       rw (p, n) (ap (λ b. (word_at (memory_of image v ram) a, memory_of image (noted_got v (action.Load b true) (word_at (memory_of image v ram) a)) ram)) e ∙ ap (λ x. (x, memory_of image (noted_got v (action.Load a true) x) ram)) value)
 
-  -- MOV from what gives an answer to a register
-  gets : (v : View) (others : List ℕ) (ram : ℕ → ℕ) (s : Operand) (k q x : ℕ) (a : Action) → IsRoom data_end top v → Fits top v others ram → bit v.sr 4 ≡ false →
-      IsAt image v.pc (Two op2.Mov false s (Reg q)) → k ≤ 2 → v.pc + 2 + k < 0x10000 → (4 ≤ q) × (q < 16) → x < 0x10000 →
-      ran ops (Two op2.Mov false s (Reg q)) (state_of image (behind v) others ram) ≡ after_source image data_end top now (noted_got v a x) others ram k (Reg q) x →
-      Leads image data_end top now v (put_home (passed (noted_got v a x) (2 + k)) (InRegister q) x) others ram
-  gets v others ram s k q x a room fits awake at short end plain small source =
+  -- MOV from what gives an answer to a home
+  gets : (v : View) (others : List ℕ) (ram : ℕ → ℕ) (byte : Bool) (s : Operand) (k : ℕ) (h : Home) (x : ℕ) (a : Action) → IsRoom data_end top v → Fits top v others ram → bit v.sr 4 ≡ false →
+      IsAt image v.pc (Two op2.Mov byte s (at_home h)) → k ≤ 2 → v.pc + 2 + k + further (at_home h) < 0x10000 → IsHome top v h → x < 0x10000 →
+      ran ops (Two op2.Mov byte s (at_home h)) (state_of image (behind v) others ram) ≡ after_source image data_end top now (noted_got v a x) others ram k (at_home h) x →
+      Leads image data_end top now v (passed (put_home (noted_got v a x) h x) (2 + k + further (at_home h))) others ram
+  gets v others ram byte s k h x a room fits awake at short end plain small source =
       let v' = noted_got v a x in
       let room' : IsRoom data_end top v' = record { objects = room.objects; low = room.low; inside = room.inside; high = room.high; even_sp = room.even_sp } in
       let fits' : Fits top v' others ram = record { long = fits.long; regs = fits.regs; words = fits.words; stack = fits.stack } in
-      let l = lands image data_end top now v' others ram k (InRegister q) x room' fits' at.high short (omega arith) plain small in
-      let e : 2 + k + 0 ≡ 2 + k = omega arith in
+      let l = lands image data_end top now v' others ram k h x room' fits' at.high short end plain small in
       record {
         others' = l.others;
         ram' = l.ram;
-        same = runs image data_end now v others ram (Two op2.Mov false s (Reg q)) at awake
-            ∙ ap (λ j. told ops (gated ops (bit v.sr 3) (Two op2.Mov false s (Reg q)) j)) source
-            ∙ ap (told ops) l.same
-            ∙ ap (λ n. told ops (state_of image (passed (put_home v' (InRegister q) x) n) l.others l.ram)) e;
+        same = runs image data_end now v others ram (Two op2.Mov byte s (at_home h)) at awake
+            ∙ ap (λ j. told ops (gated ops (bit v.sr 3) (Two op2.Mov byte s (at_home h)) j)) source
+            ∙ ap (told ops) l.same;
         fits = record { long = l.fits.long; regs = l.fits.regs; words = l.fits.words; stack = l.fits.stack };
         above = l.above;
         bytes = l.bytes;
@@ -81,28 +85,55 @@ module _ (image : ℕ → ℕ) (data_end top : ℕ) (now : Moment) where
         small_pc = let z = at.high in omega arith;
       }
 
-  -- MOV @r, q
-  pub loads : (v : View) (others : List ℕ) (ram : ℕ → ℕ) (r q a : ℕ) → IsRoom data_end top v → Fits top v others ram → bit v.sr 4 ≡ false →
-      IsAt image v.pc (Two op2.Mov false (Indirect r) (Reg q)) → Has top v (Of (InRegister r)) a → (4 ≤ q) × (q < 16) → IsWord data_end a → ((b : ℕ) → ram b < 0x100) →
-      Gets v (λ x. put_home (passed (noted_got v (action.Load a true) x) 2) (InRegister q) x) others ram
-  loads v others ram r q a room fits awake at has plain word bytes =
+  address_in : (v : View) (others : List ℕ) (ram : ℕ → ℕ) (r a : ℕ) → Fits top v others ram → Has top v (Of (InRegister r)) a → reg (cpu_of (behind v) others) r ≡ a
+  address_in v others ram r a fits has = reg_plain (cpu_of (behind v) others) r has.0.0 ∙ fits.regs r has.0.0 has.0.1 ∙ has.1
+
+  -- MOV @r, h
+  pub loads : (v : View) (others : List ℕ) (ram : ℕ → ℕ) (r : ℕ) (h : Home) (a : ℕ) → IsRoom data_end top v → Fits top v others ram → bit v.sr 4 ≡ false →
+      IsAt image v.pc (Two op2.Mov false (Indirect r) (at_home h)) → Has top v (Of (InRegister r)) a → IsHome top v h → IsWord data_end a → ((b : ℕ) → ram b < 0x100) →
+      Gets v (λ x. passed (put_home (noted_got v (action.Load a true) x) h x) (2 + 0 + further (at_home h))) others ram
+  loads v others ram r h a room fits awake at has plain word bytes =
       let l = room.low in let hi = word.high in let up = at.high in
       let b0 = bytes a in
       let b1 = bytes (a + 1) in
+      let f = little h in
       let small : word_in ram a < 0x10000 = omega (arith, b0, b1) in
-      let base : reg (cpu_of (behind v) others) r ≡ a = reg_plain (cpu_of (behind v) others) r has.0.0 ∙ fits.regs r has.0.0 has.0.1 ∙ has.1 in
-      let read = ap (λ b. logged_read data_end now.answer (memory_of image v ram) b true) base ∙ data_word v ram a room word in
+      let read = ap (λ b. logged_read data_end now.answer (memory_of image v ram) b true) (address_in v others ram r a fits has) ∙ data_word v ram a room word in
       record {
         answer = word_in ram a;
         small = small;
-        leads = gets v others ram (Indirect r) 0 q (word_in ram a) (action.Load a true) room fits awake at (omega arith) (omega arith) plain small (ap (put_source image data_end top now v others 0 (Reg q)) read);
+        leads = gets v others ram false (Indirect r) 0 h (word_in ram a) (action.Load a true) room fits awake at (omega arith) (omega arith) plain small (ap (put_source image data_end top now v others 0 (at_home h)) read);
       }
 
-  -- MOV &p, q
-  pub takes : (v : View) (others : List ℕ) (ram : ℕ → ℕ) (p q : ℕ) → IsMoment now → AreWordOuts v.noted → IsRoom data_end top v → Fits top v others ram → bit v.sr 4 ≡ false →
-      IsAt image v.pc (Two op2.Mov false (Absolute p) (Reg q)) → v.pc + 4 < 0x10000 → (4 ≤ q) × (q < 16) → IsPort p →
-      Gets v (λ x. put_home (passed (noted_got v (action.In p) x) 4) (InRegister q) x) others ram
-  takes v others ram p q moment outs room fits awake at end plain port =
+  data_byte : (v : View) (ram : ℕ → ℕ) (a : ℕ) → IsRoom data_end top v → IsByte data_end a →
+      logged_read data_end now.answer (memory_of image v ram) a false ≡ (ram a, memory_of image (noted_got v (action.Load a false) (ram a)) ram)
+  data_byte v ram a room byte =
+      let lo = byte.low in let hi = byte.high in
+      let l = room.low in let s = room.inside in let t = room.high in
+      let p : is_port a ≡ false = grind (arith, nat_tests) in
+      let n : is_data data_end a ≡ true = grind (arith, nat_tests) in
+      let r : is_ram a ≡ true = grind (arith, nat_tests) in
+      rw (p, n, r) refl
+
+  -- MOV.B @r, q
+  pub loads_byte : (v : View) (others : List ℕ) (ram : ℕ → ℕ) (r q a : ℕ) → IsRoom data_end top v → Fits top v others ram → bit v.sr 4 ≡ false →
+      IsAt image v.pc (Two op2.Mov true (Indirect r) (Reg q)) → Has top v (Of (InRegister r)) a → (4 ≤ q) × (q < 16) → IsByte data_end a → ((b : ℕ) → ram b < 0x100) →
+      GetsByte v (λ x. passed (put_home (noted_got v (action.Load a false) x) (InRegister q) x) (2 + 0 + 0)) others ram
+  loads_byte v others ram r q a room fits awake at has plain byte bytes =
+      let up = at.high in
+      let b0 = bytes a in
+      let read = ap (λ b. logged_read data_end now.answer (memory_of image v ram) b false) (address_in v others ram r a fits has) ∙ data_byte v ram a room byte in
+      record {
+        answer = ram a;
+        small = b0;
+        leads = gets v others ram true (Indirect r) 0 (InRegister q) (ram a) (action.Load a false) room fits awake at (omega arith) (omega arith) plain (omega (arith, b0)) (ap (put_source image data_end top now v others 0 (Reg q)) read);
+      }
+
+  -- MOV &p, h
+  pub takes : (v : View) (others : List ℕ) (ram : ℕ → ℕ) (p : ℕ) (h : Home) → IsMoment now → AreWordOuts v.noted → IsRoom data_end top v → Fits top v others ram → bit v.sr 4 ≡ false →
+      IsAt image v.pc (Two op2.Mov false (Absolute p) (at_home h)) → v.pc + 4 + further (at_home h) < 0x10000 → IsHome top v h → IsPort p →
+      Gets v (λ x. passed (put_home (noted_got v (action.In p) x) h x) (2 + 2 + further (at_home h))) others ram
+  takes v others ram p h moment outs room fits awake at end plain port =
       let lo = port.low in let hi = port.high in let e = port.even in
       let x = now.answer v.noted p in
       let t : is_port p ≡ true = grind (arith, nat_tests) in
@@ -111,7 +142,7 @@ module _ (image : ℕ → ℕ) (data_end top : ℕ) (now : Moment) where
       record {
         answer = x;
         small = moment.answer v.noted p outs;
-        leads = gets v others ram (Absolute p) 2 q x (action.In p) room fits awake at (omega arith) (omega arith) plain (moment.answer v.noted p outs) (ap (put_source image data_end top now v others 2 (Reg q)) read);
+        leads = gets v others ram false (Absolute p) 2 h x (action.In p) room fits awake at (omega arith) (omega arith) plain (moment.answer v.noted p outs) (ap (put_source image data_end top now v others 2 (at_home h)) read);
       }
 
   -- MOV to an address

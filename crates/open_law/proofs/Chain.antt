@@ -10,7 +10,7 @@ use Rattle.msp_isa.specs.declared.instr.Instr.TheVariants.{Two, One}
 use Rattle.msp430_cpu.specs.Cpu.{even}
 use Rattle.msp430_cpu.specs.Exec.{Step, stepped_of, further, jumped}
 use Rattle.msp430_cpu.specs.Operate.{is_taken, operate, reads_destination}
-use Rattle.open_law.specs.Homes.{Home, InRegister, InFrame, Source, Of, Number, at_home, operand_of, IsWord, IsPort}
+use Rattle.open_law.specs.Homes.{Home, InRegister, InFrame, Source, Of, Number, at_home, operand_of, IsByte, IsWord, IsPort}
 use Rattle.open_law.specs.Open.{Done, actions_of, answers_of, fault_of, silent, Moment, IsMoment, Open, Code, AreMarks, AreWordOuts, IsFair, disturbed, instruction, went, logged_bus}
 use Rattle.msp_isa.specs.Stands.{word_in}
 use Rattle.open_law.specs.Stands.{IsMarked, JumpsTo}
@@ -23,9 +23,9 @@ use Rattle.std.specs.Prelude.{bit_and, None, length}
 use Rattle.open_law.proofs.View.{View, state_of, open_of, Fits, Leads, IsRoom, IsLog, Shows}
 use Rattle.open_law.proofs.Log.{actions_on, answers_on, actions_silent, answers_silent, fault_on, fault_silent}
 use Rattle.open_law.specs.Body.{code_below}
-use Rattle.open_law.proofs.Quiet.{moves, IsHome, Has, put_home, passed, few, little}
+use Rattle.open_law.proofs.Quiet.{moves, small_of, IsHome, Has, put_home, passed, few, little}
 use Rattle.open_law.proofs.Alu.{with_result, operates}
-use Rattle.open_law.proofs.Acting.{having_got, doing, Gets, loads, takes as takes_in, stores, gives, faults}
+use Rattle.open_law.proofs.Acting.{having_got, doing, Gets, GetsByte, loads, loads_byte, takes as takes_in, stores, gives, faults}
 use Rattle.open_law.proofs.Flow.{pushing, jumps, calls, pushes, adds_sp, returns}
 use Rattle.open_law.proofs.Status.{idles, closes, saves, restores}
 
@@ -61,6 +61,10 @@ module _ (image : ℕ → ℕ) (data_end : ℕ) (marks : ℕ → List Action) (s
   -- and of w x, for an answer x
   abbrev pub Asks : View → (ℕ → View) → Type 0
   Asks v w = (now : Moment) (o : Open) → IsMoment now → Shows top v o → (x : ℕ) × (x < 0x10000) × Goes now v (w x) o
+
+  -- where the answer is a byte
+  abbrev pub AsksByte : View → (ℕ → View) → Type 0
+  AsksByte v w = (now : Moment) (o : Open) → IsMoment now → Shows top v o → (x : ℕ) × (x < 0x100) × Goes now v (w x) o
 
   -- what an instruction may rely on
   abbrev FromEach : View → List Action → (Moment → List ℕ → (ℕ → ℕ) → View → Type 0) → Type 0
@@ -156,6 +160,16 @@ module _ (image : ℕ → ℕ) (data_end : ℕ) (marks : ℕ → List Action) (s
             (one_goes v (w g.answer) (record { action = a; answers = g.answer ∷ [] } ∷ []) v.made now s.others s.ram s.done moment s.bytes s.log (adds g.answer) g.leads),
       )
 
+  asks_byte : (v : View) (w : ℕ → View) (a : Action) → marks v.pc ≡ [] → ((x : ℕ) → Adds v (w x) (record { action = a; answers = x ∷ [] } ∷ [])) →
+      FromEach v v.made (λ now others ram u. GetsByte image data_end top now u (λ x. record (w x) { noted = record { action = a; answers = x ∷ [] } ∷ [] }) others ram) → AsksByte v w
+  asks_byte v w a e adds f now o moment s =
+      let g = f now s.others (disturbed now.bytes v.sp top s.ram) moment (kept_fits v now s.others s.ram s.fits) (kept_bytes v now s.ram moment s.bytes) in (
+        g.answer,
+        g.small,
+        subst (λ x. Goes now v (w g.answer) x) (sym s.same)
+            (one_goes v (w g.answer) (record { action = a; answers = g.answer ∷ [] } ∷ []) v.made now s.others s.ram s.done moment s.bytes s.log (adds g.answer) g.leads),
+      )
+
   calm_at : (pc : ℕ) (marked : List Action) → AreMarks marked → marks pc ≡ marked → AreMarks (marks pc)
   calm_at pc marked calm e = subst AreMarks (sym e) calm
 
@@ -203,6 +217,9 @@ module _ (image : ℕ → ℕ) (data_end : ℕ) (marks : ℕ → List Action) (s
     pub ask : (n : ℕ) (v : View) (w : ℕ → View) → Good v → Asks v w → ((x : ℕ) → x < 0x10000 → Next v (w x) × Chain Good Next Post n (w x)) → Chain Good Next Post (suc n) v
     ask n v w good t c = (good, λ now o moment s. let g = t now o moment s in let r = c g.0 g.1 in (w g.0, r.1, g.2, r.0))
 
+    pub ask_byte : (n : ℕ) (v : View) (w : ℕ → View) → Good v → AsksByte v w → ((x : ℕ) → x < 0x100 → Next v (w x) × Chain Good Next Post n (w x)) → Chain Good Next Post (suc n) v
+    ask_byte n v w good t c = (good, λ now o moment s. let g = t now o moment s in let r = c g.0 g.1 in (w g.0, r.1, g.2, r.0))
+
   -- an instruction with these silent actions stands at PC
   abbrev At : View → List Action → Instr → Type 0
   At v marked i = IsMarked image marks v.pc marked i
@@ -220,31 +237,41 @@ module _ (image : ℕ → ℕ) (data_end : ℕ) (marks : ℕ → List Action) (s
       takes v (passed (put_home v h n) (2 + further (operand_of s) + further (at_home h))) [] v.made (still v (passed (put_home v h n) (2 + further (operand_of s) + further (at_home h))) ready.2 at.table refl refl refl)
       (λ now others ram moment fits bytes. moves image data_end top now (opened v now v.made) others ram s h n ready.0 fits ready.1 at.at (omega arith) has home)
 
-  -- an operation on a register
-  pub operation : (v : View) (op : Op2) (s : Source) (r n d : ℕ) → reads_destination op ≡ true → (operate op false v.sr n d).result < 0x10000 → IsReady v → At v [] (Two op false (operand_of s) (Reg r)) → Has top v s n → Has top v (Of (InRegister r)) d →
-      Takes v (with_result (passed v (2 + further (operand_of s))) r (operate op false v.sr n d))
-  operation v op s r n d reading word ready at has old =
+  -- an operation on a home
+  pub operation : (v : View) (op : Op2) (s : Source) (h : Home) (n d : ℕ) → reads_destination op ≡ true → (operate op false v.sr n d).result < 0x10000 → IsReady v → At v [] (Two op false (operand_of s) (at_home h)) → Has top v s n → Has top v (Of h) d →
+      Takes v (with_result (passed v (2 + further (operand_of s) + further (at_home h))) h (operate op false v.sr n d))
+  operation v op s h n d reading word ready at has old =
       let hi = at.at.high in
       let k = few s in
-      takes v (with_result (passed v (2 + further (operand_of s))) r (operate op false v.sr n d)) [] v.made (still v (with_result (passed v (2 + further (operand_of s))) r (operate op false v.sr n d)) ready.2 at.table refl refl refl)
-      (λ now others ram moment fits bytes. operates image data_end top now (opened v now v.made) others ram op s r n d reading word ready.0 fits ready.1 at.at (omega arith) has old)
+      let l = little h in
+      takes v (with_result (passed v (2 + further (operand_of s) + further (at_home h))) h (operate op false v.sr n d)) [] v.made (still v (with_result (passed v (2 + further (operand_of s) + further (at_home h))) h (operate op false v.sr n d)) ready.2 at.table refl refl refl)
+      (λ now others ram moment fits bytes. operates image data_end top now (opened v now v.made) others ram op s h n d reading word ready.0 fits ready.1 at.at (omega arith) has old)
 
-  -- MOV @r, q
-  pub load : (v : View) (r q a : ℕ) → IsReady v → At v [] (Two op2.Mov false (Indirect r) (Reg q)) → Has top v (Of (InRegister r)) a → (4 ≤ q) × (q < 16) → IsWord data_end a →
-      Asks v (λ x. put_home (passed (having_got v (action.Load a true) x) 2) (InRegister q) x)
-  load v r q a ready at has plain word =
-      asks v (λ x. put_home (passed (having_got v (action.Load a true) x) 2) (InRegister q) x) (action.Load a true) at.table
-      (λ x. noting v (put_home (passed (having_got v (action.Load a true) x) 2) (InRegister q) x) (action.Load a true) (x ∷ []) ready.2 at.table (tt, tt) (sym ready.2) refl refl)
-      (λ now others ram moment fits bytes. loads image data_end top now (opened v now v.made) others ram r q a ready.0 fits ready.1 at.at has plain word bytes)
+  -- MOV @r, h
+  pub load : (v : View) (r : ℕ) (h : Home) (a : ℕ) → IsReady v → At v [] (Two op2.Mov false (Indirect r) (at_home h)) → Has top v (Of (InRegister r)) a → IsHome top v h → IsWord data_end a →
+      Asks v (λ x. passed (put_home (having_got v (action.Load a true) x) h x) (2 + 0 + further (at_home h)))
+  load v r h a ready at has plain word =
+      let w = λ (x : ℕ). passed (put_home (having_got v (action.Load a true) x) h x) (2 + 0 + further (at_home h)) in
+      asks v w (action.Load a true) at.table (λ x. noting v (w x) (action.Load a true) (x ∷ []) ready.2 at.table (tt, tt) (sym ready.2) refl refl)
+      (λ now others ram moment fits bytes. loads image data_end top now (opened v now v.made) others ram r h a ready.0 fits ready.1 at.at has plain word bytes)
 
-  -- MOV &p, q
-  pub input : (v : View) (p q : ℕ) → IsReady v → At v [] (Two op2.Mov false (Absolute p) (Reg q)) → (4 ≤ q) × (q < 16) → IsPort p →
-      Asks v (λ x. put_home (passed (having_got v (action.In p) x) 4) (InRegister q) x)
-  input v p q ready at plain port =
+  -- MOV.B @r, q
+  pub load_byte : (v : View) (r q a : ℕ) → IsReady v → At v [] (Two op2.Mov true (Indirect r) (Reg q)) → Has top v (Of (InRegister r)) a → (4 ≤ q) × (q < 16) → IsByte data_end a →
+      AsksByte v (λ x. passed (put_home (having_got v (action.Load a false) x) (InRegister q) x) (2 + 0 + 0))
+  load_byte v r q a ready at has plain byte =
+      let w = λ (x : ℕ). passed (put_home (having_got v (action.Load a false) x) (InRegister q) x) (2 + 0 + 0) in
+      asks_byte v w (action.Load a false) at.table (λ x. noting v (w x) (action.Load a false) (x ∷ []) ready.2 at.table (tt, tt) (sym ready.2) refl refl)
+      (λ now others ram moment fits bytes. loads_byte image data_end top now (opened v now v.made) others ram r q a ready.0 fits ready.1 at.at has plain byte bytes)
+
+  -- MOV &p, h
+  pub input : (v : View) (p : ℕ) (h : Home) → IsReady v → At v [] (Two op2.Mov false (Absolute p) (at_home h)) → IsHome top v h → IsPort p →
+      Asks v (λ x. passed (put_home (having_got v (action.In p) x) h x) (2 + 2 + further (at_home h)))
+  input v p h ready at plain port =
       let hi = at.at.high in
-      asks v (λ x. put_home (passed (having_got v (action.In p) x) 4) (InRegister q) x) (action.In p) at.table
-      (λ x. noting v (put_home (passed (having_got v (action.In p) x) 4) (InRegister q) x) (action.In p) (x ∷ []) ready.2 at.table (tt, tt) (sym ready.2) refl refl)
-      (λ now others ram moment fits bytes. takes_in image data_end top now (opened v now v.made) others ram p q moment tt ready.0 fits ready.1 at.at (omega arith) plain port)
+      let l = little h in
+      let w = λ (x : ℕ). passed (put_home (having_got v (action.In p) x) h x) (2 + 2 + further (at_home h)) in
+      asks v w (action.In p) at.table (λ x. noting v (w x) (action.In p) (x ∷ []) ready.2 at.table (tt, tt) (sym ready.2) refl refl)
+      (λ now others ram moment fits bytes. takes_in image data_end top now (opened v now v.made) others ram p h moment tt ready.0 fits ready.1 at.at (omega arith) plain port)
 
   -- MOV s, 0(r)
   pub store : (v : View) (s : Source) (r n a : ℕ) → IsReady v → At v [] (Two op2.Mov false (operand_of s) (Indexed r 0)) → Has top v s n → Has top v (Of (InRegister r)) a → IsWord data_end a →
@@ -255,17 +282,13 @@ module _ (image : ℕ → ℕ) (data_end : ℕ) (marks : ℕ → List Action) (s
       takes v (passed (doing v (action.Store a true n) v.faulted) (4 + further (operand_of s))) (record { action = action.Store a true n; answers = [] } ∷ []) v.made (noting v (passed (doing v (action.Store a true n) v.faulted) (4 + further (operand_of s))) (action.Store a true n) [] ready.2 at.table (tt, tt) (sym ready.2) refl (sym (append-nil v.answers)))
       (λ now others ram moment fits bytes. stores image data_end top now (opened v now v.made) others ram s r n a ready.0 fits ready.1 at.at (omega arith) has base word)
 
-  small_of : (v : View) (s : Source) (n : ℕ) → Has top v s n → n < 0x10000
-  small_of v (Of h) n has = has.2
-  small_of v (Number k) n has = has.1
-
   -- MOV s, &p
   pub output : (v : View) (s : Source) (p n : ℕ) → IsReady v → At v [] (Two op2.Mov false (operand_of s) (Absolute p)) → Has top v s n → IsPort p → p ≢ 0x104 →
       Takes v (passed (doing v (action.Out p n) v.faulted) (4 + further (operand_of s)))
   output v s p n ready at has port other =
       let hi = at.at.high in
       let k = few s in
-      takes v (passed (doing v (action.Out p n) v.faulted) (4 + further (operand_of s))) (record { action = action.Out p n; answers = [] } ∷ []) v.made (noting v (passed (doing v (action.Out p n) v.faulted) (4 + further (operand_of s))) (action.Out p n) [] ready.2 at.table (small_of v s n has, tt) (sym ready.2) refl (sym (append-nil v.answers)))
+      takes v (passed (doing v (action.Out p n) v.faulted) (4 + further (operand_of s))) (record { action = action.Out p n; answers = [] } ∷ []) v.made (noting v (passed (doing v (action.Out p n) v.faulted) (4 + further (operand_of s))) (action.Out p n) [] ready.2 at.table (small_of top v s n has, tt) (sym ready.2) refl (sym (append-nil v.answers)))
       (λ now others ram moment fits bytes. gives image data_end top now (opened v now v.made) others ram s p n ready.0 fits ready.1 at.at (omega arith) has port other)
 
   -- MOV #code, &0x0104

@@ -12,7 +12,7 @@ use Rattle.msp430_cpu.specs.Bus.{Bus}
 use Rattle.msp430_cpu.specs.Exec.{Joined, place_of, value_at, ran, further, finished, told, gated}
 use Rattle.msp430_cpu.specs.Operate.{plain_result}
 use Rattle.msp430_cpu.specs.Memory.{is_ram, is_port, byte_at, word_at, with_word_at}
-use Rattle.open_law.specs.Homes.{Home, InRegister, InFrame, Source, Of, Number, at_home, operand_of}
+use Rattle.open_law.specs.Homes.{Home, InRegister, InFrame, Source, Of, Number, Made, StackPointer, at_home, operand_of}
 use Rattle.open_law.specs.Open.{Logged, Moment, is_data, logged_bus, logged_write, logged_read}
 use Rattle.msp_isa.specs.Stands.{word_in, IsAt}
 use Rattle.open_law.proofs.View.{View, even_at, cpu_of, memory_of, state_of, Fits, Leads, IsRoom, runs, behind, word_bytes}
@@ -29,6 +29,8 @@ held_at sp regs stack (InFrame x) = word_in stack (sp + x)
 abbrev pub HasAt : ℕ → ℕ → (ℕ → ℕ) → (ℕ → ℕ) → Source → ℕ → Type 0
 HasAt top sp regs stack (Of h) n = IsHomeAt top sp h × (held_at sp regs stack h ≡ n) × (n < 0x10000)
 HasAt top sp regs stack (Number k) n = (k ≡ n) × (n < 0x10000)
+HasAt top sp regs stack (Made k) n = (k ≡ n) × (n < 0x10000)
+HasAt top sp regs stack StackPointer n = (sp ≡ n) × (n < 0x10000)
 
 abbrev pub IsHome : ℕ → View → Home → Type 0
 IsHome top v h = IsHomeAt top v.sp h
@@ -36,6 +38,12 @@ IsHome top v h = IsHomeAt top v.sp h
 -- the source has this value
 abbrev pub Has : ℕ → View → Source → ℕ → Type 0
 Has top v s n = HasAt top v.sp v.regs v.stack s n
+
+pub small_of : (top : ℕ) (v : View) (s : Source) (n : ℕ) → Has top v s n → n < 0x10000
+small_of top v (Of h) n has = has.2
+small_of top v (Number k) n has = has.1
+small_of top v (Made k) n has = has.1
+small_of top v StackPointer n has = has.1
 
 abbrev pub put_regs : Home → ℕ → (ℕ → ℕ) → ℕ → ℕ
 put_regs (InRegister r) n regs = changed_at regs r n
@@ -70,6 +78,8 @@ pub few : (s : Source) → further (operand_of s) ≤ 2
 few (Of (InRegister r)) = omega arith
 few (Of (InFrame x)) = omega arith
 few (Number k) = omega arith
+few (Made k) = omega arith
+few StackPointer = omega arith
 
 pub little : (h : Home) → further (at_home h) ≤ 2
 little (InRegister r) = omega arith
@@ -79,14 +89,11 @@ module _ (image : ℕ → ℕ) (data_end top : ℕ) (now : Moment) where
   abbrev ops : Bus Logged
   ops = logged_bus data_end now.answer
 
-  -- a word of the frame is read
-  pub frame_word : (v : View) (others : List ℕ) (ram : ℕ → ℕ) (x : ℕ) → IsRoom data_end top v → Fits top v others ram → even x ≡ x → v.sp + x + 2 ≤ top →
-      logged_read data_end now.answer (memory_of image v ram) (wrap16 (v.sp + x)) true ≡ (word_in v.stack (v.sp + x), memory_of image v ram)
-  frame_word v others ram x room fits ev hi =
-      let d = room.objects in let l = room.low in let t = room.high in let s = room.even_sp in
-      let a = v.sp + x in
-      let w : wrap16 a ≡ a = omega arith in
-      let e : even a ≡ a = omega arith in
+  -- a word and a byte of the stack are read
+  pub stack_word : (v : View) (others : List ℕ) (ram : ℕ → ℕ) (a : ℕ) → IsRoom data_end top v → Fits top v others ram → even a ≡ a → v.sp ≤ a → a + 2 ≤ top →
+      logged_read data_end now.answer (memory_of image v ram) a true ≡ (word_in v.stack a, memory_of image v ram)
+  stack_word v others ram a room fits e lo hi =
+      let d = room.objects in let l = room.low in let t = room.high in
       let p : is_port a ≡ false = grind (arith, nat_tests) in
       let n : is_data data_end a ≡ false = grind (arith, nat_tests) in
       let r : is_ram a ≡ true = grind (arith, nat_tests) in
@@ -94,7 +101,24 @@ module _ (image : ℕ → ℕ) (data_end top : ℕ) (now : Moment) where
       let b : byte_at (memory_of image v ram) a ≡ v.stack a = rw r (fits.stack a (omega arith) (omega arith)) in
       let b' : byte_at (memory_of image v ram) (a + 1) ≡ v.stack (a + 1) = rw r' (fits.stack (a + 1) (omega arith) (omega arith)) in
       let value : word_at (memory_of image v ram) a ≡ word_in v.stack a = rw (e, b, b') refl in
-      rw (w, p, n) (ap (λ q. (q, memory_of image v ram)) value)
+      rw (p, n) (ap (λ q. (q, memory_of image v ram)) value)
+
+  pub stack_byte : (v : View) (others : List ℕ) (ram : ℕ → ℕ) (a : ℕ) → IsRoom data_end top v → Fits top v others ram → v.sp ≤ a → a < top →
+      logged_read data_end now.answer (memory_of image v ram) a false ≡ (v.stack a, memory_of image v ram)
+  stack_byte v others ram a room fits lo hi =
+      let d = room.objects in let l = room.low in let t = room.high in
+      let p : is_port a ≡ false = grind (arith, nat_tests) in
+      let n : is_data data_end a ≡ false = grind (arith, nat_tests) in
+      let r : is_ram a ≡ true = grind (arith, nat_tests) in
+      rw (p, n, r) (ap (λ q. (q, memory_of image v ram)) (fits.stack a lo hi))
+
+  -- a word of the frame is read
+  pub frame_word : (v : View) (others : List ℕ) (ram : ℕ → ℕ) (x : ℕ) → IsRoom data_end top v → Fits top v others ram → even x ≡ x → v.sp + x + 2 ≤ top →
+      logged_read data_end now.answer (memory_of image v ram) (wrap16 (v.sp + x)) true ≡ (word_in v.stack (v.sp + x), memory_of image v ram)
+  frame_word v others ram x room fits ev hi =
+      let t = room.high in let s = room.even_sp in
+      let w : wrap16 (v.sp + x) ≡ v.sp + x = omega arith in
+      ap (λ a. logged_read data_end now.answer (memory_of image v ram) a true) w ∙ stack_word v others ram (v.sp + x) room fits (omega arith) (omega arith) hi
 
   -- a source is read, with PC behind the first word
   pub reads : (v : View) (others : List ℕ) (ram : ℕ → ℕ) (s : Source) (n at : ℕ) → IsRoom data_end top v → Fits top v others ram → Has top v s n →
@@ -109,6 +133,15 @@ module _ (image : ℕ → ℕ) (data_end top : ℕ) (now : Moment) where
   reads v others ram (Number k) n at room fits h =
       let small = h.1 in let is = h.0 in
       let w : k % 0x10000 ≡ n = omega arith in
+      ap (λ x. (x, memory_of image v ram)) w
+
+  reads v others ram (Made k) n at room fits h =
+      let small = h.1 in let is = h.0 in
+      let w : k % 0x10000 ≡ n = omega arith in
+      ap (λ x. (x, memory_of image v ram)) w
+  reads v others ram StackPointer n at room fits h =
+      let small = h.1 in let is = h.0 in
+      let w : v.sp % 0x10000 ≡ n = omega arith in
       ap (λ x. (x, memory_of image v ram)) w
 
   pub put_plain : (v : View) (others : List ℕ) (ram : ℕ → ℕ) (r n : ℕ) → 4 ≤ r → r < 16 → n < 0x10000 → Fits top v others ram → Fits top (put_home v (InRegister r) n) (slice_set others (r - 4) n) ram
@@ -141,18 +174,32 @@ module _ (image : ℕ → ℕ) (data_end top : ℕ) (now : Moment) where
     stack = λ a lo hi. ap (λ b. cond (a == v.sp + x + 1) (n / 256 % 256) (cond (a == v.sp + x) (n % 256) b)) (fits.stack a lo hi);
   }
 
+  -- a word and a byte of the stack are written
+  pub stack_write : (v : View) (ram : ℕ → ℕ) (a n : ℕ) → IsRoom data_end top v → even a ≡ a → v.sp ≤ a → a + 2 ≤ top →
+      logged_write data_end now.answer (memory_of image v ram) a true n ≡ memory_of image v (with_word_at ram a n)
+  stack_write v ram a n room e lo hi =
+      let d = room.objects in let l = room.low in let t = room.high in
+      let p : is_port a ≡ false = grind (arith, nat_tests) in
+      let n' : is_data data_end a ≡ false = grind (arith, nat_tests) in
+      let r : is_ram a ≡ true = grind (arith, nat_tests) in
+      rw (p, n', r, e) refl
+
+  pub stack_write_byte : (v : View) (ram : ℕ → ℕ) (a n : ℕ) → IsRoom data_end top v → v.sp ≤ a → a < top →
+      logged_write data_end now.answer (memory_of image v ram) a false n ≡ memory_of image v (changed_at ram a (n % 256))
+  stack_write_byte v ram a n room lo hi =
+      let d = room.objects in let l = room.low in let t = room.high in
+      let p : is_port a ≡ false = grind (arith, nat_tests) in
+      let n' : is_data data_end a ≡ false = grind (arith, nat_tests) in
+      let r : is_ram a ≡ true = grind (arith, nat_tests) in
+      rw (p, n', r) refl
+
   -- a word of the frame is written
   pub frame_write : (v : View) (ram : ℕ → ℕ) (x n : ℕ) → IsRoom data_end top v → even x ≡ x → v.sp + x + 2 ≤ top →
       logged_write data_end now.answer (memory_of image v ram) (wrap16 (v.sp + x)) true n ≡ memory_of image v (with_word_at ram (v.sp + x) n)
   frame_write v ram x n room ev hi =
-      let d = room.objects in let l = room.low in let t = room.high in let s = room.even_sp in
-      let a = v.sp + x in
-      let w : wrap16 a ≡ a = omega arith in
-      let e : even a ≡ a = omega arith in
-      let p : is_port a ≡ false = grind (arith, nat_tests) in
-      let n' : is_data data_end a ≡ false = grind (arith, nat_tests) in
-      let r : is_ram a ≡ true = grind (arith, nat_tests) in
-      rw (w, p, n', r, e) refl
+      let t = room.high in let s = room.even_sp in
+      let w : wrap16 (v.sp + x) ≡ v.sp + x = omega arith in
+      ap (λ a. logged_write data_end now.answer (memory_of image v ram) a true n) w ∙ stack_write v ram (v.sp + x) n room (omega arith) (omega arith) hi
 
   pub kept_above : (ram : ℕ → ℕ) (b n a : ℕ) → b + 2 ≤ a → with_word_at ram b n a ≡ ram a
   kept_above ram b n a le =
@@ -210,6 +257,8 @@ module _ (image : ℕ → ℕ) (data_end top : ℕ) (now : Moment) where
   sourced v others ram (Of (InRegister r)) d n room fits has = ap (put_source v others 0 d) (reads (behind v) others ram (Of (InRegister r)) n (v.pc + 2) room fits has)
   sourced v others ram (Of (InFrame x)) d n room fits has = ap (put_source v others 2 d) (reads (behind v) others ram (Of (InFrame x)) n (v.pc + 2) room fits has)
   sourced v others ram (Number k) d n room fits has = ap (put_source v others 2 d) (reads (behind v) others ram (Number k) n (v.pc + 2) room fits has)
+  sourced v others ram (Made k) d n room fits has = ap (put_source v others 0 d) (reads (behind v) others ram (Made k) n (v.pc + 2) room fits has)
+  sourced v others ram StackPointer d n room fits has = ap (put_source v others 0 d) (reads (behind v) others ram StackPointer n (v.pc + 2) room fits has)
 
   -- MOV from a home or a number to a home
   pub moves : (v : View) (others : List ℕ) (ram : ℕ → ℕ) (s : Source) (h : Home) (n : ℕ) → IsRoom data_end top v → Fits top v others ram → bit v.sr 4 ≡ false →
@@ -217,7 +266,7 @@ module _ (image : ℕ → ℕ) (data_end top : ℕ) (now : Moment) where
       Leads image data_end top now v (passed (put_home v h n) (2 + further (operand_of s) + further (at_home h))) others ram
   moves v others ram s h n room fits awake at end has home =
       let i = Two op2.Mov false (operand_of s) (at_home h) in
-      let l = lands v others ram (further (operand_of s)) h n room fits at.high (few s) end home (has_small s has) in
+      let l = lands v others ram (further (operand_of s)) h n room fits at.high (few s) end home (small_of top v s n has) in
       record {
         others' = l.others;
         ram' = l.ram;
@@ -231,7 +280,3 @@ module _ (image : ℕ → ℕ) (data_end top : ℕ) (now : Moment) where
         even_pc = even_at v.pc at.even;
         small_pc = let z = at.high in omega arith;
       }
-    where
-      has_small : (s : Source) → Has top v s n → n < 0x10000
-      has_small (Of h) y = y.2
-      has_small (Number k) y = y.1
