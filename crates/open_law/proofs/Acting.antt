@@ -27,10 +27,10 @@ abbrev pub doing : View → Action → Option ℕ → View
 doing v a f = record v { made = v.made ++ (a ∷ []); faulted = f }
 
 -- the same, as the instruction notes it
-abbrev noted_got : View → Action → ℕ → View
+abbrev pub noted_got : View → Action → ℕ → View
 noted_got v a x = record (having_got v a x) { noted = v.noted ++ (record { action = a; answers = x ∷ [] } ∷ []) }
 
-abbrev noted_doing : View → Action → Option ℕ → View
+abbrev pub noted_doing : View → Action → Option ℕ → View
 noted_doing v a f = record (doing v a f) { noted = v.noted ++ (record { action = a; answers = [] } ∷ []) }
 
 module _ (image : ℕ → ℕ) (data_end top : ℕ) (now : Moment) where
@@ -85,7 +85,7 @@ module _ (image : ℕ → ℕ) (data_end top : ℕ) (now : Moment) where
         small_pc = let z = at.high in omega arith;
       }
 
-  address_in : (v : View) (others : List ℕ) (ram : ℕ → ℕ) (r a : ℕ) → Fits top v others ram → Has top v (Of (InRegister r)) a → reg (cpu_of (behind v) others) r ≡ a
+  pub address_in : (v : View) (others : List ℕ) (ram : ℕ → ℕ) (r a : ℕ) → Fits top v others ram → Has top v (Of (InRegister r)) a → reg (cpu_of (behind v) others) r ≡ a
   address_in v others ram r a fits has = reg_plain (cpu_of (behind v) others) r has.0.0 ∙ fits.regs r has.0.0 has.0.1 ∙ has.1
 
   -- MOV @r, h

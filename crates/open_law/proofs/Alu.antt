@@ -45,7 +45,7 @@ module _ (image : ℕ → ℕ) (data_end top : ℕ) (now : Moment) where
 
   lands : (v : View) (others : List ℕ) (ram : ℕ → ℕ) (k : ℕ) (h : Home) (n sr : ℕ) (is_written : Bool) → IsRoom data_end top v → Fits top v others ram → k ≤ 2 → v.pc + 2 + k + further (at_home h) < 0x10000 → IsHome top v h → n < 0x10000 →
       Lands image data_end top now v (with_result (passed v (2 + k + further (at_home h))) h (record { result = n; is_written = is_written; sr = sr })) ram
-          (finished ops (state_of image (before v k h) others ram) false (place_of (cpu_of (behind v) others) (wrap16 (v.pc + 2 + k)) (at_home h)) (record { result = n; is_written = is_written; sr = sr }))
+      (finished ops (state_of image (before v k h) others ram) false (place_of (cpu_of (behind v) others) (wrap16 (v.pc + 2 + k)) (at_home h)) (record { result = n; is_written = is_written; sr = sr }))
   lands v others ram k (InRegister r) n sr true room fits few end home small =
       let lo = home.0 in
       let t : (r == 2) ≡ false = grind (arith, nat_tests) in

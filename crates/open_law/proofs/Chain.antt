@@ -1,13 +1,14 @@
 -- Chains of instructions: from any state of a view, after exactly these instructions, whatever happens between them, a state
 -- of another view; and what must be so in between is so.
-use Rattle.std.proofs.Common.{Some, ◌≡◌, ◌≢◌, ℕ, zero, suc, ◌+◌, ◌<◌, ◌≤◌, ◌&&◌, Bool, true, false, cond, nat_lt, nat_le, List, [], ◌∷◌, ◌++◌, refl, sym, ap, ◌∙◌, subst, arith, append-nil}
+use Rattle.std.proofs.Common.{Some, ◌≡◌, ◌≢◌, ℕ, zero, suc, ◌+◌, ◌%◌, ◌<◌, ◌≤◌, ◌&&◌, Bool, true, false, cond, nat_lt, nat_le, List, [], ◌∷◌, ◌++◌, refl, sym, ap, ◌∙◌, subst, arith, append-nil}
 use Rattle.std.proofs.lemmas.Bool.Decides.{nat_tests}
 use Rattle.nm_base.specs.Lists.{bit}
 use Rattle.msp_isa.specs.declared.instr.Op2.{Op2}
 use Rattle.msp_isa.specs.declared.instr.Op2.TheVariants as op2
 use Rattle.msp_isa.specs.declared.instr.Operand.TheVariants.{Reg, Indexed, Absolute, Indirect, Increment, Constant, Immediate}
 use Rattle.msp_isa.specs.declared.instr.Instr.TheVariants.{Two, One}
-use Rattle.msp430_cpu.specs.Cpu.{even}
+use Rattle.msp430_cpu.specs.Cpu.{even, changed_at}
+use Rattle.msp430_cpu.specs.Memory.{with_word_at}
 use Rattle.msp430_cpu.specs.Exec.{Step, stepped_of, further, jumped}
 use Rattle.msp430_cpu.specs.Operate.{is_taken, operate, reads_destination}
 use Rattle.open_law.specs.Homes.{Home, InRegister, InFrame, Source, Of, Number, at_home, operand_of, IsByte, IsWord, IsPort}
@@ -26,7 +27,8 @@ use Rattle.open_law.specs.Body.{code_below}
 use Rattle.open_law.proofs.Quiet.{moves, small_of, IsHome, Has, put_home, passed, few, little}
 use Rattle.open_law.proofs.Alu.{with_result, operates}
 use Rattle.open_law.proofs.Acting.{having_got, doing, Gets, GetsByte, loads, loads_byte, takes as takes_in, stores, gives, faults}
-use Rattle.open_law.proofs.Flow.{pushing, jumps, calls, pushes, adds_sp, returns}
+use Rattle.open_law.proofs.Reached.{stores_byte, pokes, pokes_byte, peeks, peeks_byte}
+use Rattle.open_law.proofs.Flow.{pushing, jumps, calls, pushes, adds_sp, goes_to, returns}
 use Rattle.open_law.proofs.Status.{idles, closes, saves, restores}
 
 -- as an instruction finds it
@@ -282,6 +284,51 @@ module _ (image : ℕ → ℕ) (data_end : ℕ) (marks : ℕ → List Action) (s
       takes v (passed (doing v (action.Store a true n) v.faulted) (4 + further (operand_of s))) (record { action = action.Store a true n; answers = [] } ∷ []) v.made (noting v (passed (doing v (action.Store a true n) v.faulted) (4 + further (operand_of s))) (action.Store a true n) [] ready.2 at.table (tt, tt) (sym ready.2) refl (sym (append-nil v.answers)))
       (λ now others ram moment fits bytes. stores image data_end top now (opened v now v.made) others ram s r n a ready.0 fits ready.1 at.at (omega arith) has base word)
 
+  -- MOV.B s, 0(r), to an object
+  pub store_byte : (v : View) (s : Source) (r n a : ℕ) → IsReady v → At v [] (Two op2.Mov true (operand_of s) (Indexed r 0)) → Has top v s n → Has top v (Of (InRegister r)) a → IsByte data_end a →
+      Takes v (passed (doing v (action.Store a false (n % 256)) v.faulted) (4 + further (operand_of s)))
+  store_byte v s r n a ready at has base byte =
+      let hi = at.at.high in
+      let k = few s in
+      let did = action.Store a false (n % 256) in
+      let w = passed (doing v did v.faulted) (4 + further (operand_of s)) in
+      takes v w (record { action = did; answers = [] } ∷ []) v.made (noting v w did [] ready.2 at.table (tt, tt) (sym ready.2) refl (sym (append-nil v.answers)))
+      (λ now others ram moment fits bytes. stores_byte image data_end top now (opened v now v.made) others ram s r n a ready.0 fits bytes ready.1 at.at (omega arith) has base byte)
+
+  -- MOV and MOV.B of a source to the frame, where a register leads
+  pub poke : (v : View) (s : Source) (r n a : ℕ) → IsReady v → At v [] (Two op2.Mov false (operand_of s) (Indexed r 0)) → Has top v s n → Has top v (Of (InRegister r)) a → even a ≡ a → v.sp ≤ a → a + 2 ≤ top →
+      Takes v (passed (record v { stack = with_word_at v.stack a n }) (4 + further (operand_of s)))
+  poke v s r n a ready at has base ev lo hi =
+      let up = at.at.high in
+      let k = few s in
+      let w = passed (record v { stack = with_word_at v.stack a n }) (4 + further (operand_of s)) in
+      takes v w [] v.made (still v w ready.2 at.table refl refl refl)
+      (λ now others ram moment fits bytes. pokes image data_end top now (opened v now v.made) others ram s r n a ready.0 fits ready.1 at.at (omega arith) has base ev lo hi)
+
+  pub poke_byte : (v : View) (s : Source) (r n a : ℕ) → IsReady v → At v [] (Two op2.Mov true (operand_of s) (Indexed r 0)) → Has top v s n → Has top v (Of (InRegister r)) a → v.sp ≤ a → a < top →
+      Takes v (passed (record v { stack = changed_at v.stack a (n % 256) }) (4 + further (operand_of s)))
+  poke_byte v s r n a ready at has base lo hi =
+      let up = at.at.high in
+      let k = few s in
+      let w = passed (record v { stack = changed_at v.stack a (n % 256) }) (4 + further (operand_of s)) in
+      takes v w [] v.made (still v w ready.2 at.table refl refl refl)
+      (λ now others ram moment fits bytes. pokes_byte image data_end top now (opened v now v.made) others ram s r n a ready.0 fits bytes ready.1 at.at (omega arith) has base lo hi)
+
+  -- MOV @r, to a home, and MOV.B @r, to a register, from the frame
+  pub peek : (v : View) (r : ℕ) (h : Home) (a : ℕ) → IsReady v → At v [] (Two op2.Mov false (Indirect r) (at_home h)) → Has top v (Of (InRegister r)) a → IsHome top v h → even a ≡ a → v.sp ≤ a → a + 2 ≤ top →
+      Takes v (passed (put_home v h (word_in v.stack a)) (2 + 0 + further (at_home h)))
+  peek v r h a ready at has home ev lo hi =
+      let w = passed (put_home v h (word_in v.stack a)) (2 + 0 + further (at_home h)) in
+      takes v w [] v.made (still v w ready.2 at.table refl refl refl)
+      (λ now others ram moment fits bytes. peeks image data_end top now (opened v now v.made) others ram r h a ready.0 fits bytes ready.1 at.at has home ev lo hi)
+
+  pub peek_byte : (v : View) (r q a : ℕ) → IsReady v → At v [] (Two op2.Mov true (Indirect r) (Reg q)) → Has top v (Of (InRegister r)) a → (4 ≤ q) × (q < 16) → v.sp ≤ a → a < top →
+      Takes v (passed (put_home v (InRegister q) (v.stack a)) (2 + 0 + 0))
+  peek_byte v r q a ready at has plain lo hi =
+      let w = passed (put_home v (InRegister q) (v.stack a)) (2 + 0 + 0) in
+      takes v w [] v.made (still v w ready.2 at.table refl refl refl)
+      (λ now others ram moment fits bytes. peeks_byte image data_end top now (opened v now v.made) others ram r q a ready.0 fits bytes ready.1 at.at has plain lo hi)
+
   -- MOV s, &p
   pub output : (v : View) (s : Source) (p n : ℕ) → IsReady v → At v [] (Two op2.Mov false (operand_of s) (Absolute p)) → Has top v s n → IsPort p → p ≢ 0x104 →
       Takes v (passed (doing v (action.Out p n) v.faulted) (4 + further (operand_of s)))
@@ -315,21 +362,27 @@ module _ (image : ℕ → ℕ) (data_end : ℕ) (marks : ℕ → List Action) (s
       takes v (record (pushing v (v.pc + 4)) { pc = target; gate = bit v.sr 3 }) [] v.made (still v (record (pushing v (v.pc + 4)) { pc = target; gate = bit v.sr 3 }) ready.2 at.table refl refl refl)
       (λ now others ram moment fits bytes. calls image data_end top now (opened v now v.made) others ram target ready.0 deep fits ready.1 at.at (omega arith) ev small)
 
-  -- PUSH #n
-  pub push : (v : View) (n : ℕ) → IsReady v → data_end + 2 ≤ v.sp → At v [] (One op1.Push false (Immediate n)) → n < 0x10000 →
-      Takes v (passed (pushing v n) 4)
-  push v n ready deep at small =
-      let hi = at.at.high in
-      takes v (passed (pushing v n) 4) [] v.made (still v (passed (pushing v n) 4) ready.2 at.table refl refl refl)
-      (λ now others ram moment fits bytes. pushes image data_end top now (opened v now v.made) others ram n ready.0 deep fits ready.1 at.at (omega arith) small)
+  -- PUSH
+  pub push : (v : View) (s : Source) (n : ℕ) → IsReady v → data_end + 2 ≤ v.sp → At v [] (One op1.Push false (operand_of s)) → Has top v s n →
+      Takes v (passed (pushing v n) (2 + further (operand_of s)))
+  push v s n ready deep at has =
+      takes v (passed (pushing v n) (2 + further (operand_of s))) [] v.made (still v (passed (pushing v n) (2 + further (operand_of s))) ready.2 at.table refl refl refl)
+      (λ now others ram moment fits bytes. pushes image data_end top now (opened v now v.made) others ram s n ready.0 deep fits ready.1 at.at has)
 
-  -- ADD #n, SP
-  pub drop_frame : (v : View) (n : ℕ) → IsReady v → At v [] (Two op2.Add false (Immediate n) (Reg 1)) → v.sp + n ≤ top → even n ≡ n →
-      Takes v (record (passed v 4) { sp = v.sp + n; sr = (operate op2.Add false v.sr n v.sp).sr })
-  drop_frame v n ready at room ev =
-      let hi = at.at.high in
-      takes v (record (passed v 4) { sp = v.sp + n; sr = (operate op2.Add false v.sr n v.sp).sr }) [] v.made (still v (record (passed v 4) { sp = v.sp + n; sr = (operate op2.Add false v.sr n v.sp).sr }) ready.2 at.table refl refl refl)
-      (λ now others ram moment fits bytes. adds_sp image data_end top now (opened v now v.made) others ram n ready.0 fits ready.1 at.at (omega arith) room ev)
+  -- ADD of a number to SP
+  pub drop_frame : (v : View) (s : Source) (n : ℕ) → IsReady v → At v [] (Two op2.Add false (operand_of s) (Reg 1)) → Has top v s n → v.sp + n ≤ top → even n ≡ n →
+      Takes v (record (passed v (2 + further (operand_of s))) { sp = v.sp + n; sr = (operate op2.Add false v.sr n v.sp).sr })
+  drop_frame v s n ready at has room ev =
+      let w = record (passed v (2 + further (operand_of s))) { sp = v.sp + n; sr = (operate op2.Add false v.sr n v.sp).sr } in
+      takes v w [] v.made (still v w ready.2 at.table refl refl refl)
+      (λ now others ram moment fits bytes. adds_sp image data_end top now (opened v now v.made) others ram s n ready.0 fits ready.1 at.at has room ev)
+
+  -- MOV #target, PC
+  pub go_to : (v : View) (target : ℕ) → IsReady v → At v [] (Two op2.Mov false (Immediate target) (Reg 0)) → even target ≡ target → target < 0x10000 →
+      Takes v (record v { pc = target; gate = bit v.sr 3 })
+  go_to v target ready at ev small =
+      takes v (record v { pc = target; gate = bit v.sr 3 }) [] v.made (still v (record v { pc = target; gate = bit v.sr 3 }) ready.2 at.table refl refl refl)
+      (λ now others ram moment fits bytes. goes_to image data_end top now (opened v now v.made) others ram target fits ready.1 at.at ev small)
 
   -- RET
   pub ret : (v : View) → IsReady v → v.sp + 2 ≤ top → At v [] (Two op2.Mov false (Increment 1) (Reg 0)) →

@@ -12,6 +12,7 @@ use Rattle.nm_base.specs.Behaviour.{Performed, Trace, Returned, is_begin, is_end
 use Rattle.open_law.specs.Open.{Done, actions_of, answers_of, fault_of, silent, Moment, IsMoment, Open, Code, AreNext, AreMarks, HoldsWords, IsBetween, IsFair, IsOpenCode, IsGated, IsShut, is_over, went, open_step, open_all, open_start}
 use Rattle.msp_isa.specs.Stands.{word_in}
 use Rattle.open_law.specs.Body.{acts, code_below, given_in, HasGiven, IsBodyLaw, IsFunctionLaw, StartsOpen, StartsShut}
+use Rattle.open_law.specs.Laws.{FunctionsAreBodies}
 use Rattle.open_law.proofs.View.{View, IsLog, Shows, cpu_of}
 use Rattle.open_law.proofs.Log.{actions_on, actions_silent, next_on}
 use Rattle.open_law.proofs.Chain.{Goes, Chain}
@@ -468,3 +469,9 @@ is_body image data_end marks Gate gives act entry depth bound Starts law c ram p
       fair = f.fair;
       soon = f.soon;
     }
+
+pub functions_are_bodies : FunctionsAreBodies
+functions_are_bodies image data_end marks gives act entry depth bound law = (
+  is_body image data_end marks IsGated gives act entry depth bound StartsOpen law.0,
+  is_body image data_end marks (λ code o. IsShut o) gives act entry depth bound StartsShut law.1,
+)

@@ -134,7 +134,6 @@ module _ (image : ℕ → ℕ) (data_end top : ℕ) (now : Moment) where
       let small = h.1 in let is = h.0 in
       let w : k % 0x10000 ≡ n = omega arith in
       ap (λ x. (x, memory_of image v ram)) w
-
   reads v others ram (Made k) n at room fits h =
       let small = h.1 in let is = h.0 in
       let w : k % 0x10000 ≡ n = omega arith in

@@ -3,7 +3,7 @@ use Rattle.std.specs.Prelude.{◌≡◌, ℕ, zero, suc, ◌+◌, ◌-◌, ◌*�
 use Rattle.nm_base.specs.declared.action.Action.{Action}
 use Rattle.msp430_cpu.specs.Cpu.{Cpu, even, gie, cpuoff, reg}
 use Rattle.nm_base.specs.Behaviour.{Performed, Trace, Returned, is_returned}
-use Rattle.open_law.specs.Open.{Open, Code, AreAll, HoldsWords, IsOpenCode, actions_of, answers_of, is_within, fault_of}
+use Rattle.open_law.specs.Open.{Open, Code, AreAll, HoldsWords, IsOpenCode, IsGated, IsShut, actions_of, answers_of, is_within, fault_of}
 use Rattle.msp_isa.specs.Stands.{word_in}
 
 -- a called body is back: the return address is popped, the gate is as it was, no atomic statement is open, and it has done all
@@ -57,3 +57,10 @@ module _ (image : ℕ → ℕ) (data_end : ℕ) (marks : ℕ → List Action) wh
   IsFunctionLaw Gate gives act entry depth bound Starts =
       (c : Cpu) (ram : ℕ → ℕ) → c.pc ≡ entry → Starts c → cpuoff c ≡ false → HoldsWords c → data_end + depth ≤ c.sp → c.sp + 2 ≤ 0x3900 → ((a : ℕ) → ram a < 0x100) →
       IsOpenCode (acts act) (code_below (c.sp + 2)) (c.sp - depth) bound (Gate (code_below (c.sp + 2))) (HasGiven gives act c ram) c ram
+
+  -- called with the gate open, and called with it closed
+  abbrev pub IsOpenBody : (act : List ℕ → ℕ → Performed) → (entry depth bound : ℕ) → Type 0
+  IsOpenBody act entry depth bound = IsBodyLaw IsGated act entry depth bound StartsOpen × IsBodyLaw (λ code o. IsShut o) act entry depth bound StartsShut
+
+  abbrev pub IsOpenFunction : (gives : ℕ) → (act : List ℕ → ℕ → Trace) → (entry depth bound : ℕ) → Type 0
+  IsOpenFunction gives act entry depth bound = IsFunctionLaw IsGated gives act entry depth bound StartsOpen × IsFunctionLaw (λ code o. IsShut o) gives act entry depth bound StartsShut

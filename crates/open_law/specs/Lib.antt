@@ -3,4 +3,5 @@ pub mod Body
 pub mod Stands
 pub mod Homes
 pub mod Swift
+pub mod Laws
 pub mod Rows
