@@ -1,3 +1,4 @@
 pub mod Frames
 pub mod Select
+pub mod Sound
 pub mod Rows

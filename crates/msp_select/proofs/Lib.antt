@@ -1,0 +1,4 @@
+pub mod Nest
+pub mod Reached
+pub mod Relation
+pub mod Kept
