@@ -2,3 +2,4 @@ pub mod Nest
 pub mod Reached
 pub mod Relation
 pub mod Kept
+pub mod Doing
