@@ -2,7 +2,7 @@
 use Rattle.std.proofs.Common.{None, ◌≡◌, ◌≢◌, ◌⊎◌, ℕ, zero, suc, ◌+◌, ◌*◌, ◌/◌, ◌%◌, ◌^◌, ◌<◌, ◌≤◌, ◌==◌, Bool, true, false, cond, List, [], ◌∷◌, ◌++◌, length, length-append, Some, refl, sym, ap, ◌∙◌, subst, arith}
 use mathlib.Core.Logic.{inl, inr}
 use Rattle.std.specs.Prelude.{slice_get}
-use Rattle.std.proofs.lemmas.Bool.Decides.{nat_tests}
+use Rattle.std.proofs.lemmas.Bool.Decides.{nat_tests, eqb_tells}
 use Rattle.nm_base.specs.Lists.{bit, IsPrefixOf, number_of}
 use Rattle.nm_base.specs.declared.action.Action.{Action}
 use Rattle.nm_base.specs.Behaviour.{is_begin, is_end}
@@ -18,22 +18,28 @@ use Rattle.msp_isa.specs.Encode.{encoded, further_word, before_words}
 use Rattle.msp430_cpu.specs.Cpu.{changed_at}
 use Rattle.msp430_cpu.specs.Exec.{further}
 use Rattle.mid_code.specs.declared.instr.Mid.{Mid}
+use Rattle.mid_code.specs.declared.instr.Mid.TheVariants.{Set, Move, Bin, Carry, Load, Store, Peek, Poke, In, Out, Tick, Fault}
+use Rattle.mid_code.specs.declared.instr.Op.{Op}
+use Rattle.mid_code.specs.Words as words
+use Rattle.msp430_cpu.specs.Operate.{operate}
 use Rattle.mid_code.specs.Form.{IsMidCode, NamesOwn, FitsProgram, IsMidFn, goes_elsewhere}
 use Rattle.mid_code.specs.Machine.{Activation, Goes, Acts, Wants, at_place, fn_of, instruction, onward, perform, put, started, step, write}
 use Rattle.mid_code.specs.Reached.{MayGoOn, AllMayGoOn, innermost_instruction, opens_at, opens_behind}
 use Rattle.mid_code.proofs.Calls.{behind, own_end, own_form}
-use Rattle.open_law.specs.Homes.{Home, InRegister, InFrame, Of, at_home}
+use Rattle.open_law.specs.Homes.{Home, InRegister, InFrame, Of, at_home, operand_of, literal}
 use Rattle.open_law.specs.Stands.{IsMarked}
 use Rattle.open_law.proofs.View.{View}
 use Rattle.open_law.proofs.Quiet.{HasAt, IsHomeAt, put_regs, put_stack, put_home, passed}
-use Rattle.open_law.proofs.Chain.{Chain, step as chain_step, ask as chain_ask, ask_byte as chain_ask_byte, Takes, Asks, AsksByte, move}
+use Rattle.open_law.proofs.Alu.{with_result}
+use Rattle.open_law.proofs.Chain.{Chain, step as chain_step, ask as chain_ask, ask_byte as chain_ask_byte, Takes, Asks, AsksByte, move, operation}
 use Rattle.open_law.proofs.Law.{NextOf, Post}
-use Rattle.msp_select.specs.Select.{Part, parts_of}
+use Rattle.msp_select.specs.Select.{Part, moving, operator, parts_of, scratch, two}
+use Rattle.msp_select.proofs.Flags.{Tame, has_literal, operator_is, operator_reads, tame_operator, word_of}
 use Rattle.msp_select.specs.Sound.{IsFramed, IsOfObjects, PartStands, PartsStand}
 use Rattle.msp_select.proofs.Nest.{nested, nested_on}
 use Rattle.msp_select.proofs.Reached.{Reached, goes, acts, wants, told as told_of, next_act, next_want}
-use Rattle.msp_select.proofs.Relation.{Setting, Entering, GoodOne, Here, Placed, Resuming, Told, ToldAt, act, did, fn, good, labels, settled, total}
-use Rattle.msp_select.proofs.Kept.{Premises, all_get, there, placed_wrote, placed_stayed, callers_wrote, home_of, ready, words_of}
+use Rattle.msp_select.proofs.Relation.{Setting, Entering, GoodOne, Here, Placed, Resuming, Told, ToldAt, act, did, flagged, fn, good, labels, settled, total}
+use Rattle.msp_select.proofs.Kept.{Premises, all_get, there, placed_wrote, placed_stayed, callers_wrote, has, home_of, ready, words_of}
 
 further_bytes : (o : Operand) (ws : List ℕ) → 2 * length (before_words (further_word o) ws) ≡ further o + 2 * length ws
 further_bytes (Reg r) ws = omega arith
@@ -231,3 +237,139 @@ module _ (S : Setting) (left : List Activation → ℕ) (most : ℕ) (P : Premis
           (sr : ℕ) (gate : Bool) → ToldAt S v.made v.answers v.sp sr gate v.faulted → ToldAt S (v.made ++ (d ∷ [])) (v.answers ++ (x ∷ [])) v.sp sr gate v.faulted
       want_told d g x small neutral e o sr gate t =
           did S d (v.answers ++ (x ∷ [])) (told_of S.code S.root (g x ∷ rest) (h.opens ∷ h.outer) (v.made ++ (d ∷ [])) (v.answers ++ (x ∷ [])) (wants S.code S.root (a ∷ rest) (h.opens ∷ h.outer) v.made v.answers h.reached d (λ y. g y ∷ rest) (h.opens ∷ h.outer) x small e o)) (nested_on 0 v.made d ∙ neutral.0) neutral.1 neutral.2 t
+
+      -- an instruction leaves the same Begins open
+      abbrev pub steady : (i : Mid) → Type 0
+      steady i = opens_behind (Some i) (h.opens ∷ h.outer) ≡ h.opens ∷ h.outer
+
+      opened : (i : Mid) → instruction S.code a ≡ Some i → steady i → opens_behind (instruction S.code a) (h.opens ∷ h.outer) ≡ h.opens ∷ h.outer
+      opened i e o = ap (λ x. opens_behind x (h.opens ∷ h.outer)) e ∙ o
+
+      abbrev end : ℕ
+      end = S.places a.f (a.at + 1)
+
+      abbrev home : ℕ → Home
+      home x = S.homes a.f x
+
+      stepped : (i : Mid) → instruction S.code a ≡ Some i → step S.code (a ∷ rest) ≡ perform (Some i) S.code (fn S a) a rest
+      stepped i e = ap (λ o. perform o S.code (fn S a) a rest) e
+
+      pub set : (x n : ℕ) → instruction S.code a ≡ Some (Set x n) → Piece 1 v
+      set x n e =
+          let k = home x in
+          let st = stands (Set x n) e in
+          let small = P.selectable a.f a.at (Set x n) e in
+          let lt = (names (Set x n) e).written 0 0 (omega arith) in
+          let at = marked S a.f v.pc end [] (Two op2.Mov false (operand_of (literal n)) (at_home k)) [] st in
+          let pc = behind_two S a.f v.pc end [] op2.Mov false (operand_of (literal n)) (at_home k) [] st in
+          let next : step S.code (a ∷ rest) ≡ Goes (write a x n ∷ rest) = stepped (Set x n) e in
+          let w = passed (put_home v k n) (2 + further (operand_of (literal n)) + further (at_home k)) in
+          one 0 v w h.told refl (move S.image S.data_end S.marks S.c.sp v (literal n) k n (ready S left most P v h.told) at (has_literal (S.c.sp + 2) v.sp v.regs v.stack n small) (home_of S left most P a h.opens (bit v.sr 3) h.first v.sp v.regs v.stack placed x lt))
+          (silent (write a x n) rest w next
+          (wrote x n w.pc v.sr (bit v.sr 3) w.regs v.made v.answers lt small (onward_place (Set x n) e refl) pc (λ r lo. refl) refl
+          (goes S.code S.root (a ∷ rest) (h.opens ∷ h.outer) v.made v.answers h.reached (write a x n ∷ rest) (h.opens ∷ h.outer) next (opened (Set x n) e refl)) refl (settled S h.told)))
+
+      pub copy : (x y : ℕ) → instruction S.code a ≡ Some (Move x y) → Piece 1 v
+      copy x y e =
+          let k = home x in
+          let n = a.values y in
+          let st = stands (Move x y) e in
+          let lt = (names (Move x y) e).written 0 0 (omega arith) in
+          let ly = (names (Move x y) e).read 0 0 (omega arith) in
+          let old = placed.values y ly in
+          let at = marked S a.f v.pc end [] (Two op2.Mov false (at_home (home y)) (at_home k)) [] st in
+          let pc = behind_two S a.f v.pc end [] op2.Mov false (at_home (home y)) (at_home k) [] st in
+          let next : step S.code (a ∷ rest) ≡ Goes (write a x n ∷ rest) = stepped (Move x y) e in
+          let w = passed (put_home v k n) (2 + further (at_home (home y)) + further (at_home k)) in
+          one 0 v w h.told refl (move S.image S.data_end S.marks S.c.sp v (Of (home y)) k n (ready S left most P v h.told) at old (home_of S left most P a h.opens (bit v.sr 3) h.first v.sp v.regs v.stack placed x lt))
+          (silent (write a x n) rest w next
+          (wrote x n w.pc v.sr (bit v.sr 3) w.regs v.made v.answers lt old.2 (onward_place (Move x y) e refl) pc (λ r lo. refl) refl
+          (goes S.code S.root (a ∷ rest) (h.opens ∷ h.outer) v.made v.answers h.reached (write a x n ∷ rest) (h.opens ∷ h.outer) next (opened (Move x y) e refl)) refl (settled S h.told)))
+
+      -- R12 is moved to its home, and the call goes on behind
+      finish : (x n : ℕ) (i : Mid) → instruction S.code a ≡ Some i → steady i → goes_elsewhere i ≡ false → step S.code (a ∷ rest) ≡ Goes (write a x n ∷ rest) → x < (fn S a).values → n < 0x10000 →
+          (pc sr : ℕ) (gate : Bool) (regs : ℕ → ℕ) → Stand S a.f pc (moving (Of scratch) (home x) ∷ []) end → ToldAt S v.made v.answers v.sp sr gate v.faulted → bit sr 3 ≡ bit v.sr 3 → ((r : ℕ) → r < 12 → regs r ≡ v.regs r) → regs 12 ≡ n →
+          Piece 1 (record v { pc = pc; sr = sr; gate = gate; regs = regs })
+      finish x n i e o on next lt small pc sr gate regs st t gie' low is =
+          let k = home x in
+          let u = record v { pc = pc; sr = sr; gate = gate; regs = regs } in
+          let w = passed (put_home u k n) (2 + 0 + further (at_home k)) in
+          let at = marked S a.f pc end [] (Two op2.Mov false (Reg 12) (at_home k)) [] st in
+          let last = behind_two S a.f pc end [] op2.Mov false (Reg 12) (at_home k) [] st in
+          one 0 u w t refl (move S.image S.data_end S.marks S.c.sp u (Of (InRegister 12)) k n (ready S left most P u t) at (in_scratch v.sp regs v.stack n small is) (home_of S left most P a h.opens (bit v.sr 3) h.first v.sp v.regs v.stack placed x lt))
+          (silent (write a x n) rest w next
+          (wrote x n w.pc sr w.gate w.regs v.made v.answers lt small (onward_place i e on) last (through_home k regs v.regs n low) gie'
+          (goes S.code S.root (a ∷ rest) (h.opens ∷ h.outer) v.made v.answers h.reached (write a x n ∷ rest) (h.opens ∷ h.outer) next (opened i e o)) refl (settled S t)))
+
+      -- a view behind an operation
+      abbrev operated : View → Home → ℕ → ℕ → ℕ → View
+      operated u k bytes n sr = with_result (passed u bytes) k (record { result = n; is_written = true; sr = sr })
+
+      -- an operation of a value on R12 or on a home
+      operation_on : (u : View) (o : Op) (y : ℕ) (k : Home) (p : ℕ) → ToldAt S u.made u.answers u.sp u.sr u.gate u.faulted → u.sp ≡ v.sp → u.stack ≡ v.stack → ((r : ℕ) → r < 12 → u.regs r ≡ v.regs r) → y < (fn S a).values → p < 0x10000 →
+          IsMarked S.image S.marks u.pc [] (Two (operator o) false (at_home (home y)) (at_home k)) → HasAt (S.c.sp + 2) u.sp u.regs u.stack (Of k) p →
+          Takes S.image S.data_end S.marks S.c.sp u (operated u k (2 + further (at_home (home y)) + further (at_home k)) (words.operate o p (a.values y)) (operate (operator o) false u.sr (a.values y) p).sr)
+      operation_on u o y k p t es ek low ly small at has' =
+          let q = a.values y in
+          let lq = (placed.values y ly).2 in
+          let second = has S left most P a h.opens (bit v.sr 3) h.first v.sp v.regs v.stack placed u.regs y low ly in
+          let second' = subst (λ s. HasAt (S.c.sp + 2) u.sp u.regs s (Of (home y)) q) (sym ek) (subst (λ s. HasAt (S.c.sp + 2) s u.regs v.stack (Of (home y)) q) (sym es) second) in
+          let is = operator_is o u.sr p q small lq in
+          subst (λ r. Takes S.image S.data_end S.marks S.c.sp u (with_result (passed u (2 + further (at_home (home y)) + further (at_home k))) k r)) is
+          (operation S.image S.data_end S.marks S.c.sp u (operator o) (Of (home y)) k q p (operator_reads o) (subst (λ r. r.result < 0x10000) (sym is) (word_of o p q small lq)) (ready S left most P u t) at second' has')
+
+      module _ (o : Op) (x p q : ℕ) (e : instruction S.code a ≡ Some (Bin o x p q)) where
+        abbrev k : Home
+        k = home x
+
+        abbrev n : ℕ
+        n = words.operate o (a.values p) (a.values q)
+
+        lt : x < (fn S a).values
+        lt = (names (Bin o x p q) e).written 0 0 (omega arith)
+
+        lp : p < (fn S a).values
+        lp = (names (Bin o x p q) e).read 0 0 (omega arith)
+
+        lq : q < (fn S a).values
+        lq = (names (Bin o x p q) e).read 1 0 (omega arith)
+
+        small : n < 0x10000
+        small = word_of o (a.values p) (a.values q) (placed.values p lp).2 (placed.values q lq).2
+
+        next : step S.code (a ∷ rest) ≡ Goes (write a x n ∷ rest)
+        next = stepped (Bin o x p q) e
+
+        abbrev sr : ℕ
+        sr = (operate (operator o) false v.sr (a.values q) (a.values p)).sr
+
+        calm : Tame v.sr sr
+        calm = tame_operator o v.sr (a.values q) (a.values p) h.told.word
+
+        by : (((x == p) ≡ true) × (x ≡ p)) ⊎ (((x == p) ≡ false) × (x ≢ p)) → (i : ℕ) × (i ≤ 2) × Piece (suc i) v
+        by (inl t) =
+            let st = subst (λ b. Stand S a.f v.pc (cond b (two (operator o) (Of (home q)) k ∷ []) (moving (Of (home p)) scratch ∷ two (operator o) (Of (home q)) scratch ∷ moving (Of scratch) k ∷ [])) end) t.0 (stands (Bin o x p q) e) in
+            let at = marked S a.f v.pc end [] (Two (operator o) false (at_home (home q)) (at_home k)) [] st in
+            let pc = behind_two S a.f v.pc end [] (operator o) false (at_home (home q)) (at_home k) [] st in
+            let w = operated v k (2 + further (at_home (home q)) + further (at_home k)) n sr in
+            let first = subst (λ y. HasAt (S.c.sp + 2) v.sp v.regs v.stack (Of (home y)) (a.values p)) (sym t.1) (placed.values p lp) in
+            (0, omega arith, one 0 v w h.told refl (operation_on v o q k (a.values p) h.told refl refl (λ r lo. refl) lq (placed.values p lp).2 at first)
+            (silent (write a x n) rest w next
+            (wrote x n w.pc sr w.gate w.regs v.made v.answers lt small (onward_place (Bin o x p q) e refl) pc (λ r lo. refl) calm.gie
+            (goes S.code S.root (a ∷ rest) (h.opens ∷ h.outer) v.made v.answers h.reached (write a x n ∷ rest) (h.opens ∷ h.outer) next (opened (Bin o x p q) e refl)) refl (flagged S sr calm.gie calm.off calm.small (settled S h.told)))))
+        by (inr t) =
+            let st = subst (λ b. Stand S a.f v.pc (cond b (two (operator o) (Of (home q)) k ∷ []) (moving (Of (home p)) scratch ∷ two (operator o) (Of (home q)) scratch ∷ moving (Of scratch) k ∷ [])) end) t.0 (stands (Bin o x p q) e) in
+            let at = marked S a.f v.pc end [] (Two op2.Mov false (at_home (home p)) (Reg 12)) (two (operator o) (Of (home q)) scratch ∷ moving (Of scratch) k ∷ []) st in
+            let st1 = behind_two S a.f v.pc end [] op2.Mov false (at_home (home p)) (Reg 12) (two (operator o) (Of (home q)) scratch ∷ moving (Of scratch) k ∷ []) st in
+            let u = held p 12 in
+            let t1 = settled S h.told in
+            let at1 = marked S a.f u.pc end [] (Two (operator o) false (at_home (home q)) (Reg 12)) (moving (Of scratch) k ∷ []) st1 in
+            let st2 = behind_two S a.f u.pc end [] (operator o) false (at_home (home q)) (Reg 12) (moving (Of scratch) k ∷ []) st1 in
+            let w = operated u scratch (2 + further (at_home (home q)) + 0) n sr in
+            let low = low_registers v.regs (a.values p) in
+            (2, omega arith, fetch p 2 lp at
+            (one 1 u w t1 refl (operation_on u o q scratch (a.values p) t1 refl refl low lq (placed.values p lp).2 at1 (in_scratch v.sp u.regs v.stack (a.values p) (placed.values p lp).2 refl))
+            (finish x n (Bin o x p q) e refl refl next lt small w.pc sr w.gate w.regs st2 (flagged S sr calm.gie calm.off calm.small t1) calm.gie (λ r lo. low_registers u.regs n r lo ∙ low r lo) refl)))
+
+        pub bin : (i : ℕ) × (i ≤ 2) × Piece (suc i) v
+        bin = by (eqb_tells x p)

@@ -21,14 +21,14 @@ use Rattle.open_law.proofs.Quiet.{HasAt, IsHomeAt, held_at, put_regs, put_stack}
 use Rattle.open_law.proofs.Homes.{held_same, held_other, held_scratch, word_above, word_other}
 use Rattle.open_law.proofs.Law.{IsStart}
 use Rattle.msp_select.specs.Select.{parts_of, raised, takes}
-use Rattle.msp_select.specs.Sound.{IsCallable, IsDeep, IsFramed, IsPaced, IsPlace, IsStanding, PartsStand, TouchesObjects, parameters}
+use Rattle.msp_select.specs.Sound.{IsSelectable, IsDeep, IsFramed, IsPaced, IsPlace, IsStanding, PartsStand, TouchesObjects, parameters}
 use Rattle.msp_select.proofs.Relation.{Setting, AllApart, Callers, IsCaller, IsFree, IsSlot, Placed, Saved, Told, extent, fn, labels}
 
 -- all that selection relies on
 pub record Premises (S : Setting) (left : List Activation → ℕ) (most : ℕ) : Type 0 where
   pub form : IsMidCode S.code
   pub keeps : KeepsForm S.code
-  pub callable : (f at : ℕ) (i : Mid) → slice_get (fn_of S.code f).code at ≡ Some i → IsCallable i
+  pub selectable : (f at : ℕ) (i : Mid) → slice_get (fn_of S.code f).code at ≡ Some i → IsSelectable i
   pub framed : (f : ℕ) → f < length S.code.fns → IsFramed S.code S.homes S.own S.deep f
   pub deep : (f : ℕ) → f < length S.code.fns → IsDeep S.code S.homes S.own S.deep f
   pub standing : IsStanding S.code S.homes S.own S.deep S.image S.marks S.entries S.places

@@ -10,7 +10,7 @@ use Rattle.msp430_cpu.specs.Cpu.{even}
 use Rattle.mid_code.specs.declared.code.MidFn.{MidFn}
 use Rattle.mid_code.specs.declared.code.MidCode.{MidCode}
 use Rattle.mid_code.specs.declared.instr.Mid.{Mid}
-use Rattle.mid_code.specs.declared.instr.Mid.TheVariants.{Load, Store, Call, Help, Post}
+use Rattle.mid_code.specs.declared.instr.Mid.TheVariants.{Set, Load, Store, Call, Help, Post, Fault}
 use Rattle.mid_code.specs.Form.{IsMidCode}
 use Rattle.mid_code.specs.Machine.{Activation, Next, Goes, fn_of, instruction, place_of, started, step, steps}
 use Rattle.mid_code.specs.Reached.{KeepsForm, bytes, innermost_instruction, state_at}
@@ -99,11 +99,13 @@ pub record IsPaced (code : MidCode) (root : ℕ) (left : List Activation → ℕ
   pub few : (answers : ℕ → ℕ) → IsAnswers answers → (n : ℕ) → left (state_at code root answers n) ≤ most
   pub fewer : (answers : ℕ → ℕ) → IsAnswers answers → (n : ℕ) (s : List Activation) → step code (state_at code root answers n) ≡ Goes s → left s < left (state_at code root answers n)
 
--- no Post, which a queue makes a call of before; no Help
-abbrev pub IsCallable : Mid → Type 0
-IsCallable (Post k v) = ⊥
-IsCallable (Help h ins outs) = ⊥
-IsCallable _ = Unit {0}
+-- numbers are those of their words; no Post, which a queue makes a call of before; no Help
+abbrev pub IsSelectable : Mid → Type 0
+IsSelectable (Set v n) = n < 2 ^ 16
+IsSelectable (Fault c) = c < 2 ^ 8
+IsSelectable (Post k v) = ⊥
+IsSelectable (Help h ins outs) = ⊥
+IsSelectable _ = Unit {0}
 
 -- what the function does when it is called first
 abbrev pub body_of : MidCode → ℕ → List ℕ → ℕ → Trace
