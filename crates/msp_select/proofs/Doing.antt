@@ -5,6 +5,7 @@ use Rattle.std.specs.Prelude.{slice_get}
 use Rattle.std.proofs.lemmas.Bool.Decides.{nat_tests, eqb_tells}
 use Rattle.nm_base.specs.Lists.{bit, IsPrefixOf, number_of}
 use Rattle.nm_base.specs.declared.action.Action.{Action}
+use Rattle.nm_base.specs.declared.action.Action.TheVariants as action
 use Rattle.nm_base.specs.Behaviour.{is_begin, is_end}
 use Rattle.msp_isa.specs.declared.code.Item.TheVariants as item
 use Rattle.msp_isa.specs.declared.instr.Instr.{Instr}
@@ -15,7 +16,7 @@ use Rattle.msp_isa.specs.declared.instr.Op2.TheVariants as op2
 use Rattle.msp_isa.specs.declared.instr.Operand.{Operand}
 use Rattle.msp_isa.specs.declared.instr.Operand.TheVariants.{Reg, Indexed, Absolute, Indirect, Increment, Immediate, Constant}
 use Rattle.msp_isa.specs.Encode.{encoded, further_word, before_words}
-use Rattle.msp430_cpu.specs.Cpu.{changed_at}
+use Rattle.msp430_cpu.specs.Cpu.{changed_at, even}
 use Rattle.msp430_cpu.specs.Exec.{further}
 use Rattle.mid_code.specs.declared.instr.Mid.{Mid}
 use Rattle.mid_code.specs.declared.instr.Mid.TheVariants.{Set, Move, Bin, Carry, Load, Store, Peek, Poke, In, Out, Tick, Fault}
@@ -23,22 +24,23 @@ use Rattle.mid_code.specs.declared.instr.Op.{Op}
 use Rattle.mid_code.specs.Words as words
 use Rattle.msp430_cpu.specs.Operate.{operate}
 use Rattle.mid_code.specs.Form.{IsMidCode, NamesOwn, FitsProgram, IsMidFn, goes_elsewhere}
-use Rattle.mid_code.specs.Machine.{Activation, Goes, Acts, Wants, at_place, fn_of, instruction, onward, perform, put, started, step, write}
-use Rattle.mid_code.specs.Reached.{MayGoOn, AllMayGoOn, innermost_instruction, opens_at, opens_behind}
+use Rattle.mid_code.specs.Machine.{Activation, Goes, Acts, Wants, Stops, at_place, fn_of, instruction, onward, perform, put, started, step, write}
+use Rattle.mid_code.specs.Reached.{IsPort as IsMidPort, MayGoOn, AllMayGoOn, innermost_instruction, opens_at, opens_behind}
 use Rattle.mid_code.proofs.Calls.{behind, own_end, own_form}
-use Rattle.open_law.specs.Homes.{Home, InRegister, InFrame, Of, at_home, operand_of, literal}
+use Rattle.open_law.specs.Homes.{Home, InRegister, InFrame, IsPort, Of, at_home, operand_of, literal}
 use Rattle.open_law.specs.Stands.{IsMarked}
 use Rattle.open_law.proofs.View.{View}
 use Rattle.open_law.proofs.Quiet.{HasAt, IsHomeAt, put_regs, put_stack, put_home, passed}
 use Rattle.open_law.proofs.Alu.{with_result}
-use Rattle.open_law.proofs.Chain.{Chain, step as chain_step, ask as chain_ask, ask_byte as chain_ask_byte, Takes, Asks, AsksByte, move, operation}
+use Rattle.open_law.proofs.Acting.{having_got, doing}
+use Rattle.open_law.proofs.Chain.{Chain, step as chain_step, ask as chain_ask, ask_byte as chain_ask_byte, Takes, Asks, AsksByte, move, operation, load, load_byte as load_a_byte, store, store_byte as store_a_byte, input, output, fault, nop as nop_rule}
 use Rattle.open_law.proofs.Law.{NextOf, Post}
-use Rattle.msp_select.specs.Select.{Part, moving, operator, parts_of, scratch, two}
+use Rattle.msp_select.specs.Select.{Part, moved, moving, operator, parts_of, scratch, two}
 use Rattle.msp_select.proofs.Flags.{Tame, has_literal, operator_is, operator_reads, tame_operator, word_of}
 use Rattle.msp_select.specs.Sound.{IsFramed, IsOfObjects, PartStands, PartsStand}
 use Rattle.msp_select.proofs.Nest.{nested, nested_on}
-use Rattle.msp_select.proofs.Reached.{Reached, goes, acts, wants, told as told_of, next_act, next_want}
-use Rattle.msp_select.proofs.Relation.{Setting, Entering, GoodOne, Here, Placed, Resuming, Told, ToldAt, act, did, flagged, fn, good, labels, settled, total}
+use Rattle.msp_select.proofs.Reached.{Reached, goes, acts, wants, told as told_of, next_act, next_want, faulted}
+use Rattle.msp_select.proofs.Relation.{Setting, Entering, GoodOne, Here, Placed, Resuming, Told, ToldAt, act, did, flagged, fn, good, labels, obeys, settled, total}
 use Rattle.msp_select.proofs.Kept.{Premises, all_get, there, placed_wrote, placed_stayed, callers_wrote, has, home_of, ready, words_of}
 
 further_bytes : (o : Operand) (ws : List ℕ) → 2 * length (before_words (further_word o) ws) ≡ further o + 2 * length ws
@@ -64,6 +66,9 @@ some_bytes (Two op byte s d) = let e = size_two op byte s d in omega (arith, e)
 some_bytes (One op byte o) = let e = size_one op byte o in omega (arith, e)
 some_bytes (Jump c k) = omega arith
 some_bytes Reti = omega arith
+
+turned : (k : ℕ) → 4 + k ≡ 2 + k + 2
+turned k = omega arith
 
 module _ (S : Setting) (f : ℕ) where
   abbrev pub Stand : ℕ → List Part → ℕ → Type 0
@@ -373,3 +378,219 @@ module _ (S : Setting) (left : List Activation → ℕ) (most : ℕ) (P : Premis
 
         pub bin : (i : ℕ) × (i ≤ 2) × Piece (suc i) v
         bin = by (eqb_tells x p)
+
+      -- ---- actions
+
+      abbrev home_here : (x : ℕ) → x < (fn S a).values → IsHomeAt (S.c.sp + 2) v.sp (home x)
+      home_here x lt = home_of S left most P a h.opens (bit v.sr 3) h.first v.sp v.regs v.stack placed x lt
+
+      abbrev has_here : (regs' : ℕ → ℕ) (x : ℕ) → ((r : ℕ) → r < 12 → regs' r ≡ v.regs r) → x < (fn S a).values → HasAt (S.c.sp + 2) v.sp regs' v.stack (Of (home x)) (a.values x)
+      has_here regs' x low lt = has S left most P a h.opens (bit v.sr 3) h.first v.sp v.regs v.stack placed regs' x low lt
+
+      -- an action was done, or answered
+      did_reached : (d : Action) (i : Mid) → instruction S.code a ≡ Some i → steady i → (s' : List Activation) → step S.code (a ∷ rest) ≡ Acts d s' → Reached S.code S.root s' (h.opens ∷ h.outer) (v.made ++ (d ∷ [])) v.answers
+      did_reached d i e o s' next = acts S.code S.root (a ∷ rest) (h.opens ∷ h.outer) v.made v.answers h.reached d s' (h.opens ∷ h.outer) next (opened i e o)
+
+      got_reached : (d : Action) (i : Mid) → instruction S.code a ≡ Some i → steady i → (s' : ℕ → List Activation) (x : ℕ) → x < 0x10000 → step S.code (a ∷ rest) ≡ Wants d s' → Reached S.code S.root (s' x) (h.opens ∷ h.outer) (v.made ++ (d ∷ [])) (v.answers ++ (x ∷ []))
+      got_reached d i e o s' x small next = wants S.code S.root (a ∷ rest) (h.opens ∷ h.outer) v.made v.answers h.reached d s' (h.opens ∷ h.outer) x small next (opened i e o)
+
+      even_of : (n : ℕ) → n % 2 ≡ 0 → even n ≡ n
+      even_of n e = omega (arith, e)
+
+      pub load_word : (x p : ℕ) → instruction S.code a ≡ Some (Load true x p) → Piece 2 v
+      load_word x p e =
+          let i = Load true x p in
+          let k = home x in
+          let st = stands i e in
+          let lt = (names i e).written 0 0 (omega arith) in
+          let lp = (names i e).read 0 0 (omega arith) in
+          let addr = a.values p in
+          let did' = action.Load addr true in
+          let allowed = may i e in
+          let inside = of_objects i e in
+          let u = held p 12 in
+          let w = λ (n : ℕ). passed (put_home (having_got u did' n) k n) (2 + 0 + further (at_home k)) in
+          let at = marked S a.f v.pc end [] (Two op2.Mov false (at_home (home p)) (Reg 12)) (moved false (Indirect 12) (at_home k) ∷ []) st in
+          let st1 = behind_two S a.f v.pc end [] op2.Mov false (at_home (home p)) (Reg 12) (moved false (Indirect 12) (at_home k) ∷ []) st in
+          let at1 = marked S a.f u.pc end [] (Two op2.Mov false (Indirect 12) (at_home k)) [] st1 in
+          let pc = behind_two S a.f u.pc end [] op2.Mov false (Indirect 12) (at_home k) [] st1 in
+          let next : step S.code (a ∷ rest) ≡ Wants did' (λ n. write a x n ∷ rest) = stepped i e in
+          let t1 = settled S h.told in
+          let t2 = λ (n : ℕ) (small : n < 0x10000). want_told did' (λ y. write a x y) n small (refl, refl, refl) next (opened i e refl) v.sr (bit v.sr 3) t1 in
+          fetch p 1 lp at
+          (one_ask 0 u w t1 (load S.image S.data_end S.marks S.c.sp u 12 k addr (ready S left most P u t1) at1 (in_scratch v.sp u.regs v.stack addr (placed.values p lp).2 refl) (home_here x lt) (record { even = even_of addr allowed.1; low = allowed.0; high = inside }))
+          (λ n small. (
+            next_want S.code S.root (a ∷ rest) (h.opens ∷ h.outer) v.made v.answers h.reached did' (λ n. write a x n ∷ rest) next,
+            acted (write a x n) rest (w n) did'
+                (wrote x n (w n).pc v.sr (w n).gate (w n).regs (w n).made (w n).answers lt small (onward_place i e refl) pc (through_home k u.regs v.regs n (low_registers v.regs addr)) refl
+                (got_reached did' i e refl (λ y. write a x y ∷ rest) n small next) (nested_on 0 v.made did') (settled S (t2 n small))) refl,
+          )))
+
+      pub load_byte : (x p : ℕ) → instruction S.code a ≡ Some (Load false x p) → Piece 3 v
+      load_byte x p e =
+          let i = Load false x p in
+          let k = home x in
+          let st = stands i e in
+          let lt = (names i e).written 0 0 (omega arith) in
+          let lp = (names i e).read 0 0 (omega arith) in
+          let addr = a.values p in
+          let did' = action.Load addr false in
+          let allowed = may i e in
+          let inside = of_objects i e in
+          let u = held p 12 in
+          let w = λ (n : ℕ). passed (put_home (having_got u did' n) (InRegister 12) n) (2 + 0 + 0) in
+          let z = λ (n : ℕ). passed (put_home (w n) k n) (2 + 0 + further (at_home k)) in
+          let tail = moved true (Indirect 12) (Reg 12) ∷ moving (Of scratch) k ∷ [] in
+          let at = marked S a.f v.pc end [] (Two op2.Mov false (at_home (home p)) (Reg 12)) tail st in
+          let st1 = behind_two S a.f v.pc end [] op2.Mov false (at_home (home p)) (Reg 12) tail st in
+          let at1 = marked S a.f u.pc end [] (Two op2.Mov true (Indirect 12) (Reg 12)) (moving (Of scratch) k ∷ []) st1 in
+          let st2 = behind_two S a.f u.pc end [] op2.Mov true (Indirect 12) (Reg 12) (moving (Of scratch) k ∷ []) st1 in
+          let pc2 : ℕ = u.pc + (2 + 0 + 0) in
+          let at2 = marked S a.f pc2 end [] (Two op2.Mov false (Reg 12) (at_home k)) [] st2 in
+          let pc = behind_two S a.f pc2 end [] op2.Mov false (Reg 12) (at_home k) [] st2 in
+          let next : step S.code (a ∷ rest) ≡ Wants did' (λ n. write a x (n % 256) ∷ rest) = stepped i e in
+          let t1 = settled S h.told in
+          let t2 = λ (n : ℕ) (small : n < 0x10000). want_told did' (λ y. write a x (y % 256)) n small (refl, refl, refl) next (opened i e refl) v.sr (bit v.sr 3) t1 in
+          fetch p 2 lp at
+          (one_ask_byte 1 u w t1 (load_a_byte S.image S.data_end S.marks S.c.sp u 12 12 addr (ready S left most P u t1) at1 (in_scratch v.sp u.regs v.stack addr (placed.values p lp).2 refl) (omega arith, omega arith) (record { low = allowed.0; high = let b = inside in omega (arith, b) }))
+          (λ n byte. let small : n < 0x10000 = omega (arith, byte) in let same : n % 256 ≡ n = omega (arith, byte) in (
+            next_want S.code S.root (a ∷ rest) (h.opens ∷ h.outer) v.made v.answers h.reached did' (λ n. write a x (n % 256) ∷ rest) next,
+            one 0 (w n) (z n) (t2 n small) refl (move S.image S.data_end S.marks S.c.sp (w n) (Of (InRegister 12)) k n (ready S left most P (w n) (t2 n small)) at2 (in_scratch v.sp (w n).regs v.stack n small refl) (home_here x lt))
+                (acted (write a x n) rest (z n) did'
+                (wrote x n (z n).pc v.sr (z n).gate (z n).regs (z n).made (z n).answers lt small (onward_place i e refl) pc (through_home k (w n).regs v.regs n (λ r lo. low_registers u.regs n r lo ∙ low_registers v.regs addr r lo)) refl
+                (subst (λ m. Reached S.code S.root (write a x m ∷ rest) (h.opens ∷ h.outer) (v.made ++ (did' ∷ [])) (v.answers ++ (n ∷ []))) same (got_reached did' i e refl (λ y. write a x (y % 256) ∷ rest) n small next)) (nested_on 0 v.made did') (settled S (t2 n small))) refl),
+          )))
+
+      pub store_word : (x p : ℕ) → instruction S.code a ≡ Some (Store true x p) → Piece 2 v
+      store_word x p e =
+          let i = Store true x p in
+          let st = stands i e in
+          let lx = (names i e).read 0 0 (omega arith) in
+          let lp = (names i e).read 1 0 (omega arith) in
+          let addr = a.values p in
+          let n = a.values x in
+          let did' = action.Store addr true n in
+          let allowed = may i e in
+          let inside = of_objects i e in
+          let u = held p 12 in
+          let g = onward a in
+          let z = passed (doing u did' u.faulted) (4 + further (at_home (home x))) in
+          let tail = moved false (at_home (home x)) (Indexed 12 0) ∷ [] in
+          let at = marked S a.f v.pc end [] (Two op2.Mov false (at_home (home p)) (Reg 12)) tail st in
+          let st1 = behind_two S a.f v.pc end [] op2.Mov false (at_home (home p)) (Reg 12) tail st in
+          let at1 = marked S a.f u.pc end [] (Two op2.Mov false (at_home (home x)) (Indexed 12 0)) [] st1 in
+          let pc0 = behind_two S a.f u.pc end [] op2.Mov false (at_home (home x)) (Indexed 12 0) [] st1 in
+          let pc : z.pc ≡ end = ap (λ m. u.pc + m) (turned (further (at_home (home x)))) ∙ pc0 in
+          let next : step S.code (a ∷ rest) ≡ Acts did' (g ∷ rest) = stepped i e in
+          let t1 = settled S h.told in
+          let t2 = act_told did' g (refl, refl, refl) next (opened i e refl) v.sr (bit v.sr 3) t1 in
+          fetch p 1 lp at
+          (one_act 0 u z t1 (next_act S.code S.root (a ∷ rest) (h.opens ∷ h.outer) v.made v.answers h.reached did' (g ∷ rest) next)
+          (store S.image S.data_end S.marks S.c.sp u (Of (home x)) 12 n addr (ready S left most P u t1) at1 (has_here u.regs x (low_registers v.regs addr) lx) (in_scratch v.sp u.regs v.stack addr (placed.values p lp).2 refl) (record { even = even_of addr allowed.1; low = allowed.0; high = inside }))
+          (acted g rest z did'
+          (stayed (a.at + 1) z.pc v.sr z.gate u.regs z.made z.answers (onward_place i e refl) pc (low_registers v.regs addr) refl
+          (did_reached did' i e refl (g ∷ rest) next) (nested_on 0 v.made did') t2) refl))
+
+      pub store_byte : (x p : ℕ) → instruction S.code a ≡ Some (Store false x p) → Piece 2 v
+      store_byte x p e =
+          let i = Store false x p in
+          let st = stands i e in
+          let lx = (names i e).read 0 0 (omega arith) in
+          let lp = (names i e).read 1 0 (omega arith) in
+          let addr = a.values p in
+          let n = a.values x in
+          let did' = action.Store addr false (n % 256) in
+          let allowed = may i e in
+          let inside = of_objects i e in
+          let u = held p 12 in
+          let g = onward a in
+          let z = passed (doing u did' u.faulted) (4 + further (at_home (home x))) in
+          let tail = moved true (at_home (home x)) (Indexed 12 0) ∷ [] in
+          let at = marked S a.f v.pc end [] (Two op2.Mov false (at_home (home p)) (Reg 12)) tail st in
+          let st1 = behind_two S a.f v.pc end [] op2.Mov false (at_home (home p)) (Reg 12) tail st in
+          let at1 = marked S a.f u.pc end [] (Two op2.Mov true (at_home (home x)) (Indexed 12 0)) [] st1 in
+          let pc0 = behind_two S a.f u.pc end [] op2.Mov true (at_home (home x)) (Indexed 12 0) [] st1 in
+          let pc : z.pc ≡ end = ap (λ m. u.pc + m) (turned (further (at_home (home x)))) ∙ pc0 in
+          let next : step S.code (a ∷ rest) ≡ Acts did' (g ∷ rest) = stepped i e in
+          let t1 = settled S h.told in
+          let t2 = act_told did' g (refl, refl, refl) next (opened i e refl) v.sr (bit v.sr 3) t1 in
+          fetch p 1 lp at
+          (one_act 0 u z t1 (next_act S.code S.root (a ∷ rest) (h.opens ∷ h.outer) v.made v.answers h.reached did' (g ∷ rest) next)
+          (store_a_byte S.image S.data_end S.marks S.c.sp u (Of (home x)) 12 n addr (ready S left most P u t1) at1 (has_here u.regs x (low_registers v.regs addr) lx) (in_scratch v.sp u.regs v.stack addr (placed.values p lp).2 refl) (record { low = allowed.0; high = let b = inside in omega (arith, b) }))
+          (acted g rest z did'
+          (stayed (a.at + 1) z.pc v.sr z.gate u.regs z.made z.answers (onward_place i e refl) pc (low_registers v.regs addr) refl
+          (did_reached did' i e refl (g ∷ rest) next) (nested_on 0 v.made did') t2) refl))
+
+      port_of : (port : ℕ) → IsMidPort port → IsPort port × (port ≢ 0x104)
+      port_of port (inl e) = (record { even = omega (arith, e); low = omega (arith, e); high = omega (arith, e) }, λ z. omega (arith, e, z))
+      port_of port (inr (inl e)) = (record { even = omega (arith, e); low = omega (arith, e); high = omega (arith, e) }, λ z. omega (arith, e, z))
+      port_of port (inr (inr r)) = let e = r.0 in let lo = r.1 in let hi = r.2 in (record { even = omega (arith, e); low = omega (arith, lo); high = omega (arith, hi) }, λ z. omega (arith, lo, z))
+
+      pub take_port : (x port : ℕ) → instruction S.code a ≡ Some (In x port) → Piece 1 v
+      take_port x port e =
+          let i = In x port in
+          let k = home x in
+          let st = stands i e in
+          let lt = (names i e).written 0 0 (omega arith) in
+          let did' = action.In port in
+          let w = λ (n : ℕ). passed (put_home (having_got v did' n) k n) (2 + 2 + further (at_home k)) in
+          let at = marked S a.f v.pc end [] (Two op2.Mov false (Absolute port) (at_home k)) [] st in
+          let pc = behind_two S a.f v.pc end [] op2.Mov false (Absolute port) (at_home k) [] st in
+          let next : step S.code (a ∷ rest) ≡ Wants did' (λ n. write a x n ∷ rest) = stepped i e in
+          let t2 = λ (n : ℕ) (small : n < 0x10000). want_told did' (λ y. write a x y) n small (refl, refl, refl) next (opened i e refl) v.sr (bit v.sr 3) (settled S h.told) in
+          one_ask 0 v w h.told (input S.image S.data_end S.marks S.c.sp v port k (ready S left most P v h.told) at (home_here x lt) (port_of port (may i e)).0)
+          (λ n small. (
+            next_want S.code S.root (a ∷ rest) (h.opens ∷ h.outer) v.made v.answers h.reached did' (λ n. write a x n ∷ rest) next,
+            acted (write a x n) rest (w n) did'
+                (wrote x n (w n).pc v.sr (w n).gate (w n).regs (w n).made (w n).answers lt small (onward_place i e refl) pc (through_home k v.regs v.regs n (λ r lo. refl)) refl
+                (got_reached did' i e refl (λ y. write a x y ∷ rest) n small next) (nested_on 0 v.made did') (t2 n small)) refl,
+          ))
+
+      pub give_port : (port x : ℕ) → instruction S.code a ≡ Some (Out port x) → Piece 1 v
+      give_port port x e =
+          let i = Out port x in
+          let st = stands i e in
+          let lx = (names i e).read 0 0 (omega arith) in
+          let n = a.values x in
+          let did' = action.Out port n in
+          let g = onward a in
+          let z = passed (doing v did' v.faulted) (4 + further (at_home (home x))) in
+          let at = marked S a.f v.pc end [] (Two op2.Mov false (at_home (home x)) (Absolute port)) [] st in
+          let pc0 = behind_two S a.f v.pc end [] op2.Mov false (at_home (home x)) (Absolute port) [] st in
+          let pc : z.pc ≡ end = ap (λ m. v.pc + m) (turned (further (at_home (home x)))) ∙ pc0 in
+          let next : step S.code (a ∷ rest) ≡ Acts did' (g ∷ rest) = stepped i e in
+          let good' = port_of port (may i e) in
+          one_act 0 v z h.told (next_act S.code S.root (a ∷ rest) (h.opens ∷ h.outer) v.made v.answers h.reached did' (g ∷ rest) next)
+          (output S.image S.data_end S.marks S.c.sp v (Of (home x)) port n (ready S left most P v h.told) at (placed.values x lx) good'.0 good'.1)
+          (acted g rest z did'
+          (stayed (a.at + 1) z.pc v.sr z.gate v.regs z.made z.answers (onward_place i e refl) pc (λ r lo. refl) refl
+          (did_reached did' i e refl (g ∷ rest) next) (nested_on 0 v.made did') (act_told did' g (refl, refl, refl) next (opened i e refl) v.sr (bit v.sr 3) (settled S h.told))) refl)
+
+      pub tick : instruction S.code a ≡ Some Tick → Piece 1 v
+      tick e =
+          let st = stands Tick e in
+          let did' = action.Tick in
+          let g = onward a in
+          let z = record (passed v 2) { made = v.made ++ (did' ∷ []) } in
+          let at = marked S a.f v.pc end (did' ∷ []) (Two op2.Mov false (Constant 0) (Reg 3)) [] st in
+          let pc = behind_two S a.f v.pc end (did' ∷ []) op2.Mov false (Constant 0) (Reg 3) [] st in
+          let next : step S.code (a ∷ rest) ≡ Acts did' (g ∷ rest) = stepped Tick e in
+          one_act 0 v z h.told (next_act S.code S.root (a ∷ rest) (h.opens ∷ h.outer) v.made v.answers h.reached did' (g ∷ rest) next)
+          (nop_rule S.image S.data_end S.marks S.c.sp v (did' ∷ []) (record { silent = (tt, tt); few = omega arith }) (ready S left most P v h.told) at)
+          (acted g rest z did'
+          (stayed (a.at + 1) z.pc v.sr z.gate v.regs z.made z.answers (onward_place Tick e refl) pc (λ r lo. refl) refl
+          (did_reached did' Tick e refl (g ∷ rest) next) (nested_on 0 v.made did') (act_told did' g (refl, refl, refl) next (opened Tick e refl) v.sr (bit v.sr 3) (settled S h.told))) refl)
+
+      -- FAULT is written, and nothing goes on
+      pub fault_piece : (n : ℕ) → instruction S.code a ≡ Some (Fault n) → Piece 1 v
+      fault_piece n e =
+          let st = stands (Fault n) e in
+          let small = P.selectable a.f a.at (Fault n) e in
+          let did' = action.Fault n in
+          let z = passed (doing v did' (Some n)) 6 in
+          let at = marked S a.f v.pc end [] (Two op2.Mov false (Immediate n) (Absolute 0x0104)) [] st in
+          let next : step S.code (a ∷ rest) ≡ Stops n = stepped (Fault n) e in
+          let faulted' = faulted S.code S.root (a ∷ rest) (h.opens ∷ h.outer) v.made v.answers h.reached n next in
+          let t : ToldAt S (v.made ++ (did' ∷ [])) v.answers v.sp v.sr (bit v.sr 3) v.faulted = did S did' v.answers faulted' (nested_on 0 v.made did') refl refl (settled S h.told) in
+          one_act 0 v z h.told faulted' (fault S.image S.data_end S.marks S.c.sp v n (ready S left most P v h.told) at small)
+          (inl (obeys S z v.faulted t, inl refl, (let ev = at.at.even in omega (arith, ev)), (let up = at.at.high in omega (arith, up))))

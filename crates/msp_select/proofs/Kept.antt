@@ -102,7 +102,7 @@ module _ (S : Setting) where
   placed_on a opens now first sp regs stack stack' same p = record {
     function = p.function;
     values = λ w lt. let old = p.values w lt in (old.0, held_on (S.homes a.f w) sp regs stack stack' same ∙ old.1, old.2);
-    bytes = λ o free. same (sp + o) (omega arith) ∙ p.bytes o free;
+    bytes = λ o free. (same (sp + o) (omega arith) ∙ (p.bytes o free).0, (p.bytes o free).1);
     saved = saved_on a.f stack stack' sp now opens first (λ x slot. word_on stack stack' (sp + x) (same (sp + x) (omega arith)) (same (sp + x + 1) (omega arith))) p.saved;
     low = p.low;
     room = p.room;
@@ -201,7 +201,7 @@ module _ (S : Setting) where
           record {
             function = p.function;
             values = λ w ltw. put_value x n regs' lt small same w ltw (eqb_tells w x);
-            bytes = λ o free. low_kept k n (sp + o) place (let i = free.inside in omega (arith, i)) ∙ p.bytes o free;
+            bytes = λ o free. (low_kept k n (sp + o) place (let i = free.inside in omega (arith, i)) ∙ (p.bytes o free).0, (p.bytes o free).1);
             saved = saved_as a.f (put_stack k n sp stack) sp now now' opens first gie'
                 (saved_on a.f stack (put_stack k n sp stack) sp now opens first
                 (λ y slot. let r = slot.room in word_on stack (put_stack k n sp stack) (sp + y) (low_kept k n (sp + y) place (omega (arith, r))) (low_kept k n (sp + y + 1) place (omega (arith, r)))) p.saved);
@@ -224,6 +224,27 @@ module _ (S : Setting) where
         room = p.room;
         even_sp = p.even_sp;
       }
+
+      -- a home's word lies behind the frame's bytes
+      home_behind : (h : Home) (regs' : ℕ → ℕ) (stack' : ℕ → ℕ) → IsPlace S.code S.homes S.own S.deep a.f h → ((r : ℕ) → r < 12 → regs' r ≡ regs r) → SameFrom (sp + (fn S a).frame) stack stack' → held_at sp regs' stack' h ≡ held_at sp regs stack h
+      home_behind (InRegister r) regs' stack' place low same = low r place.1
+      home_behind (InFrame x) regs' stack' place low same = let f = place.1 in word_on stack stack' (sp + x) (same (sp + x) (omega (arith, f))) (same (sp + x + 1) (omega (arith, f)))
+
+      -- bytes of the frame are written, apart from the places where SR is saved
+      pub placed_poked : (at : ℕ) (frame' : ℕ → ℕ) (now' : Bool) (regs' stack' : ℕ → ℕ) → ((r : ℕ) → r < 12 → regs' r ≡ regs r) → now' ≡ now → SameFrom (sp + (fn S a).frame) stack stack' → ((x : ℕ) → IsSlot S a.f x → word_in stack' (sp + x) ≡ word_in stack (sp + x)) →
+          ((o : ℕ) → IsFree S a.f o → (stack' (sp + o) ≡ frame' o) × (frame' o < 0x100)) → Placed S (record { f = a.f; at = at; values = a.values; frame = frame' }) opens now' first sp regs' stack'
+      placed_poked at frame' now' regs' stack' low gie' same slots bytes = record {
+        function = p.function;
+        values = λ w lt. let old = p.values w lt in (old.0, home_behind (S.homes a.f w) regs' stack' (framed.kept w lt) low same ∙ old.1, old.2);
+        bytes = bytes;
+        saved = saved_as a.f stack' sp now now' opens first gie' (saved_on a.f stack stack' sp now opens first slots p.saved);
+        low = p.low;
+        room = p.room;
+        even_sp = p.even_sp;
+      }
+
+      pub callers_poked : (stack' : ℕ → ℕ) (rest : List Activation) (outer : List (List ℕ)) → SameFrom (sp + (fn S a).frame) stack stack' → Callers S stack first (sp + S.own a.f) (words_of a.f) rest outer → Callers S stack' first (sp + S.own a.f) (words_of a.f) rest outer
+      callers_poked stack' rest outer same h = callers_on stack stack' first (sp + S.own a.f) (words_of a.f) rest outer (λ b lo far. same b (let f = framed.frame in omega (arith, lo, f))) h
 
     -- what an instruction may rely on
     pub ready : (v : View) → Told S v → IsRoomAt S.data_end (S.c.sp + 2) v.sp × (bit v.sr 4 ≡ false) × (v.faulted ≡ None)

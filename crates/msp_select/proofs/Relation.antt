@@ -79,7 +79,7 @@ module _ (S : Setting) where
   pub record Placed (a : Activation) (opens : List ℕ) (now first : Bool) (sp : ℕ) (regs stack : ℕ → ℕ) : Type 0 where
     pub function : a.f < length S.code.fns
     pub values : (w : ℕ) → w < (fn a).values → HasAt (S.c.sp + 2) sp regs stack (Of (S.homes a.f w)) (a.values w)
-    pub bytes : (o : ℕ) → IsFree a.f o → stack (sp + o) ≡ a.frame o
+    pub bytes : (o : ℕ) → IsFree a.f o → (stack (sp + o) ≡ a.frame o) × (a.frame o < 0x100)
     pub saved : Saved a.f stack sp now opens first
     pub low : S.c.sp + S.deep a.f ≤ sp + S.own a.f + S.deep S.root
     pub room : sp + extent a ≤ S.c.sp + 2
