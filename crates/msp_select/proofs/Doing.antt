@@ -1,5 +1,5 @@
 -- The rules by which the code of an instruction of the middle code is a chain.
-use Rattle.std.proofs.Common.{None, ◌≡◌, ◌≢◌, ◌⊎◌, ℕ, zero, suc, ◌+◌, ◌*◌, ◌/◌, ◌%◌, ◌^◌, ◌<◌, ◌≤◌, ◌==◌, Bool, true, false, cond, List, [], ◌∷◌, ◌++◌, length, length-append, Some, refl, sym, ap, ◌∙◌, subst, arith}
+use Rattle.std.proofs.Common.{None, ◌≡◌, ◌≢◌, ◌⊎◌, ⊎_elim, ℕ, zero, suc, ◌+◌, ◌*◌, ◌/◌, ◌%◌, ◌^◌, ◌<◌, ◌≤◌, ◌==◌, Bool, true, false, cond, List, [], ◌∷◌, ◌++◌, length, length-append, Some, refl, sym, ap, ◌∙◌, subst, arith}
 use mathlib.Core.Logic.{inl, inr}
 use Rattle.std.specs.Prelude.{slice_get}
 use Rattle.std.proofs.lemmas.Bool.Decides.{nat_tests, eqb_tells}
@@ -24,24 +24,28 @@ use Rattle.mid_code.specs.declared.instr.Op.{Op}
 use Rattle.mid_code.specs.Words as words
 use Rattle.msp430_cpu.specs.Operate.{operate}
 use Rattle.mid_code.specs.Form.{IsMidCode, NamesOwn, FitsProgram, IsMidFn, goes_elsewhere}
-use Rattle.mid_code.specs.Machine.{Activation, Goes, Acts, Wants, Stops, at_place, fn_of, instruction, onward, perform, put, started, step, write}
-use Rattle.mid_code.specs.Reached.{IsPort as IsMidPort, MayGoOn, AllMayGoOn, innermost_instruction, opens_at, opens_behind}
+use Rattle.mid_code.specs.Machine.{Activation, Goes, Acts, Wants, Stops, peeked, poked, at_place, fn_of, instruction, onward, perform, put, started, step, write}
+use Rattle.mid_code.specs.Reached.{IsInFrame, IsPort as IsMidPort, MayGoOn, AllMayGoOn, innermost_instruction, opens_at, opens_behind}
 use Rattle.mid_code.proofs.Calls.{behind, own_end, own_form}
-use Rattle.open_law.specs.Homes.{Home, InRegister, InFrame, IsPort, Of, at_home, operand_of, literal}
+use Rattle.open_law.specs.Homes.{Home, InRegister, InFrame, IsPort, Of, StackPointer, at_home, operand_of, literal}
 use Rattle.open_law.specs.Stands.{IsMarked}
+use Rattle.msp_isa.specs.Stands.{word_in}
+use Rattle.msp430_cpu.specs.Memory.{with_word_at}
+use Rattle.open_law.proofs.Homes.{word_above, word_other}
 use Rattle.open_law.proofs.View.{View}
 use Rattle.open_law.proofs.Quiet.{HasAt, IsHomeAt, put_regs, put_stack, put_home, passed}
 use Rattle.open_law.proofs.Alu.{with_result}
 use Rattle.open_law.proofs.Acting.{having_got, doing}
-use Rattle.open_law.proofs.Chain.{Chain, step as chain_step, ask as chain_ask, ask_byte as chain_ask_byte, Takes, Asks, AsksByte, move, operation, load, load_byte as load_a_byte, store, store_byte as store_a_byte, input, output, fault, nop as nop_rule}
+use Rattle.open_law.proofs.Chain.{Chain, step as chain_step, ask as chain_ask, ask_byte as chain_ask_byte, Takes, Asks, AsksByte, move, operation, load, load_byte as load_a_byte, peek as peek_rule, peek_byte as peek_a_byte, poke as poke_rule, poke_byte as poke_a_byte, store, store_byte as store_a_byte, input, output, fault, nop as nop_rule}
 use Rattle.open_law.proofs.Law.{NextOf, Post}
 use Rattle.msp_select.specs.Select.{Part, moved, moving, operator, parts_of, scratch, two}
-use Rattle.msp_select.proofs.Flags.{Tame, has_literal, operator_is, operator_reads, tame_operator, word_of}
+use Rattle.msp_select.proofs.Bytes.{byte_other, byte_poked, word_poked}
+use Rattle.msp_select.proofs.Flags.{Tame, tame, has_literal, operator_is, operator_reads, tame_operator, word_of}
 use Rattle.msp_select.specs.Sound.{IsFramed, IsOfObjects, PartStands, PartsStand}
 use Rattle.msp_select.proofs.Nest.{nested, nested_on}
 use Rattle.msp_select.proofs.Reached.{Reached, goes, acts, wants, told as told_of, next_act, next_want, faulted}
-use Rattle.msp_select.proofs.Relation.{Setting, Entering, GoodOne, Here, Placed, Resuming, Told, ToldAt, act, did, flagged, fn, good, labels, obeys, settled, total}
-use Rattle.msp_select.proofs.Kept.{Premises, all_get, there, placed_wrote, placed_stayed, callers_wrote, has, home_of, ready, words_of}
+use Rattle.msp_select.proofs.Relation.{Setting, Entering, GoodOne, Here, IsFree, IsSlot, Placed, Resuming, Told, ToldAt, act, did, flagged, fn, good, labels, obeys, settled, total}
+use Rattle.msp_select.proofs.Kept.{Premises, all_get, there, placed_wrote, placed_stayed, callers_wrote, has, home_of, placed_poked, callers_poked, ready, word_on, words_of, SameFrom}
 
 further_bytes : (o : Operand) (ws : List ℕ) → 2 * length (before_words (further_word o) ws) ≡ further o + 2 * length ws
 further_bytes (Reg r) ws = omega arith
@@ -66,6 +70,9 @@ some_bytes (Two op byte s d) = let e = size_two op byte s d in omega (arith, e)
 some_bytes (One op byte o) = let e = size_one op byte o in omega (arith, e)
 some_bytes (Jump c k) = omega arith
 some_bytes Reti = omega arith
+
+word_parts : (s0 s1 f0 f1 : ℕ) → s0 ≡ f0 → s1 ≡ f1 → s0 + 256 * s1 ≡ f0 + 256 * f1
+word_parts s0 s1 f0 f1 e g = ap (λ x. x + 256 * s1) e ∙ ap (λ x. f0 + 256 * x) g
 
 turned : (k : ℕ) → 4 + k ≡ 2 + k + 2
 turned k = omega arith
@@ -594,3 +601,160 @@ module _ (S : Setting) (left : List Activation → ℕ) (most : ℕ) (P : Premis
           let t : ToldAt S (v.made ++ (did' ∷ [])) v.answers v.sp v.sr (bit v.sr 3) v.faulted = did S did' v.answers faulted' (nested_on 0 v.made did') refl refl (settled S h.told) in
           one_act 0 v z h.told faulted' (fault S.image S.data_end S.marks S.c.sp v n (ready S left most P v h.told) at small)
           (inl (obeys S z v.faulted t, inl refl, (let ev = at.at.even in omega (arith, ev)), (let up = at.at.high in omega (arith, up))))
+
+      -- ---- the frame
+
+      -- R12 leads to a place of the frame
+      abbrev pointed : ℕ → View
+      pointed p = with_result (passed (held p 12) (2 + 0 + 0)) scratch (operate op2.Add false v.sr v.sp (a.values p))
+
+      room_of_frame : v.sp + (fn S a).frame ≤ S.c.sp
+      room_of_frame = let f = framed.frame in let r = placed.room in omega (arith, f, r)
+
+      point : (p n : ℕ) (tail : List Part) → p < (fn S a).values → a.values p < (fn S a).frame → Stand S a.f v.pc (moving (Of (home p)) scratch ∷ two op2.Add StackPointer scratch ∷ tail) end →
+          (Stand S a.f (pointed p).pc tail end → Told S (pointed p) → HasAt (S.c.sp + 2) v.sp (pointed p).regs v.stack (Of scratch) (v.sp + a.values p) → Piece n (pointed p)) → Piece (suc (suc n)) v
+      point p n tail lp inside st next =
+          let q = a.values p in
+          let u = held p 12 in
+          let r = room_of_frame in let hi = P.start.high in
+          let sum : (q + v.sp + 0) % 0x10000 ≡ v.sp + q = omega (arith, r, hi, inside) in
+          let at = marked S a.f v.pc end [] (Two op2.Mov false (at_home (home p)) (Reg 12)) (two op2.Add StackPointer scratch ∷ tail) st in
+          let st1 = behind_two S a.f v.pc end [] op2.Mov false (at_home (home p)) (Reg 12) (two op2.Add StackPointer scratch ∷ tail) st in
+          let at1 = marked S a.f u.pc end [] (Two op2.Add false (Reg 1) (Reg 12)) tail st1 in
+          let st2 = behind_two S a.f u.pc end [] op2.Add false (Reg 1) (Reg 12) tail st1 in
+          let calm = tame v.sr _ _ _ _ in
+          let t1 = settled S h.told in
+          fetch p (suc n) lp at
+          (one n u (pointed p) t1 refl (operation S.image S.data_end S.marks S.c.sp u op2.Add StackPointer scratch v.sp q refl (omega arith) (ready S left most P u t1) at1 (refl, (let b = h.told.below in omega (arith, b, hi))) (in_scratch v.sp u.regs v.stack q (placed.values p lp).2 refl))
+          (next st2 (flagged S (pointed p).sr calm.gie calm.off calm.small t1) (in_scratch v.sp (pointed p).regs v.stack (v.sp + q) (omega (arith, r, hi, inside)) sum)))
+
+      free_at : (q : ℕ) (is_word : Bool) → IsInFrame (fn S a) is_word q → IsFree S a.f q
+      free_at q true i = record { inside = let b = i.inside in omega (arith, b); apart = λ b c. ⊎_elim (λ l. inl (omega (arith, l))) (λ r. inr r) (i.apart b c) }
+      free_at q false i = record { inside = let b = i.inside in omega (arith, b); apart = λ b c. ⊎_elim (λ l. inl (omega (arith, l))) (λ r. inr r) (i.apart b c) }
+
+      free_behind : (q : ℕ) → IsInFrame (fn S a) true q → IsFree S a.f (q + 1)
+      free_behind q i = record { inside = let b = i.inside in omega (arith, b); apart = λ b c. ⊎_elim (λ l. inl (omega (arith, l))) (λ r. inr (omega (arith, r))) (i.apart b c) }
+
+      pub peek_word : (x p : ℕ) → instruction S.code a ≡ Some (Peek true x p) → Piece 3 v
+      peek_word x p e =
+          let i = Peek true x p in
+          let k = home x in
+          let q = a.values p in
+          let inside = may i e in
+          let lt = (names i e).written 0 0 (omega arith) in
+          let lp = (names i e).read 0 0 (omega arith) in
+          let u = pointed p in
+          let n = word_in v.stack (v.sp + q) in
+          let b0 = placed.bytes q (free_at q true inside) in
+          let b1 = placed.bytes (q + 1) (free_behind q inside) in
+          let deep' : v.sp + q + 1 ≡ v.sp + (q + 1) = omega arith in
+          let is : n ≡ peeked true a.frame q = word_parts (v.stack (v.sp + q)) (v.stack (v.sp + q + 1)) (a.frame q) (a.frame (q + 1)) b0.0 (ap v.stack deep' ∙ b1.0) in
+          let small : n < 0x10000 = let s0 = b0.1 in let s1 = b1.1 in omega (arith, is, s0, s1) in
+          let w = passed (put_home u k n) (2 + 0 + further (at_home k)) in
+          let next : step S.code (a ∷ rest) ≡ Goes (write a x n ∷ rest) = stepped i e ∙ ap (λ m. Goes (write a x m ∷ rest)) (sym is) in
+          let fits' = inside.inside in let r = room_of_frame in let ev = h.told.even_sp in let al = inside.aligned in
+          let calm = tame v.sr _ _ _ _ in
+          point p 1 (moved false (Indirect 12) (at_home k) ∷ []) lp (omega (arith, fits')) (stands i e)
+          (λ st t has'.
+          let at = marked S a.f u.pc end [] (Two op2.Mov false (Indirect 12) (at_home k)) [] st in
+          let pc = behind_two S a.f u.pc end [] op2.Mov false (Indirect 12) (at_home k) [] st in
+          one 0 u w t refl (peek_rule S.image S.data_end S.marks S.c.sp u 12 k (v.sp + q) (ready S left most P u t) at has' (home_here x lt) (omega (arith, ev, al)) (omega arith) (omega (arith, fits', r)))
+          (silent (write a x n) rest w next
+          (wrote x n w.pc u.sr (bit u.sr 3) w.regs v.made v.answers lt small (onward_place i e refl) pc (through_home k u.regs v.regs n (λ r lo. low_registers (changed_at v.regs 12 q) _ r lo ∙ low_registers v.regs q r lo)) calm.gie
+          (goes S.code S.root (a ∷ rest) (h.opens ∷ h.outer) v.made v.answers h.reached (write a x n ∷ rest) (h.opens ∷ h.outer) next (opened i e refl)) refl (settled S t))))
+
+      pub peek_byte : (x p : ℕ) → instruction S.code a ≡ Some (Peek false x p) → Piece 4 v
+      peek_byte x p e =
+          let i = Peek false x p in
+          let k = home x in
+          let q = a.values p in
+          let inside = may i e in
+          let lt = (names i e).written 0 0 (omega arith) in
+          let lp = (names i e).read 0 0 (omega arith) in
+          let u = pointed p in
+          let n = v.stack (v.sp + q) in
+          let b0 = placed.bytes q (free_at q false inside) in
+          let small : n < 0x10000 = let s0 = b0.1 in let s1 = b0.0 in omega (arith, s0, s1) in
+          let w = passed (put_home u (InRegister 12) n) (2 + 0 + 0) in
+          let next : step S.code (a ∷ rest) ≡ Goes (write a x n ∷ rest) = stepped i e ∙ ap (λ m. Goes (write a x m ∷ rest)) (sym b0.0) in
+          let fits' = inside.inside in let r = room_of_frame in
+          let calm = tame v.sr _ _ _ _ in
+          point p 2 (moved true (Indirect 12) (Reg 12) ∷ moving (Of scratch) k ∷ []) lp (omega (arith, fits')) (stands i e)
+          (λ st t has'.
+          let at = marked S a.f u.pc end [] (Two op2.Mov true (Indirect 12) (Reg 12)) (moving (Of scratch) k ∷ []) st in
+          let st1 = behind_two S a.f u.pc end [] op2.Mov true (Indirect 12) (Reg 12) (moving (Of scratch) k ∷ []) st in
+          one 1 u w t refl (peek_a_byte S.image S.data_end S.marks S.c.sp u 12 12 (v.sp + q) (ready S left most P u t) at has' (omega arith, omega arith) (omega arith) (omega (arith, fits', r)))
+          (finish x n i e refl refl next lt small w.pc u.sr (bit u.sr 3) w.regs st1 (settled S t) calm.gie (λ r lo. low_registers u.regs n r lo ∙ low_registers (changed_at v.regs 12 q) _ r lo ∙ low_registers v.regs q r lo) refl))
+
+      -- a place of the frame has been written
+      poked_here : (i : Mid) → instruction S.code a ≡ Some i → steady i → goes_elsewhere i ≡ false → (q : ℕ) (frame' stack' regs' : ℕ → ℕ) (pc sr : ℕ) (gate : Bool) → step S.code (a ∷ rest) ≡ Goes (record { f = a.f; at = a.at + 1; values = a.values; frame = frame' } ∷ rest) →
+          SameFrom S (v.sp + (fn S a).frame) v.stack stack' → ((x : ℕ) → IsSlot S a.f x → word_in stack' (v.sp + x) ≡ word_in v.stack (v.sp + x)) → ((o : ℕ) → IsFree S a.f o → (stack' (v.sp + o) ≡ frame' o) × (frame' o < 0x100)) →
+          pc ≡ end → ((r : ℕ) → r < 12 → regs' r ≡ v.regs r) → bit sr 3 ≡ bit v.sr 3 → ToldAt S v.made v.answers v.sp sr gate v.faulted →
+          After (record v { pc = pc; sr = sr; gate = gate; regs = regs'; stack = stack' })
+      poked_here i e o on q frame' stack' regs' pc sr gate next same slots bytes at low gie' t =
+          silent (record { f = a.f; at = a.at + 1; values = a.values; frame = frame' }) rest (record v { pc = pc; sr = sr; gate = gate; regs = regs'; stack = stack' }) next
+          (record {
+            opens = h.opens;
+            outer = h.outer;
+            first = h.first;
+            placed = placed_poked S left most P a h.opens (bit v.sr 3) h.first v.sp v.regs v.stack placed (a.at + 1) frame' (bit sr 3) regs' stack' low gie' same slots bytes;
+            callers = callers_poked S left most P a h.opens (bit v.sr 3) h.first v.sp v.regs v.stack placed stack' rest h.outer same h.callers;
+            place = onward_place i e on;
+            pc = at;
+            reached = goes S.code S.root (a ∷ rest) (h.opens ∷ h.outer) v.made v.answers h.reached (record { f = a.f; at = a.at + 1; values = a.values; frame = frame' } ∷ rest) (h.opens ∷ h.outer) next (opened i e o);
+            nest = h.nest;
+            told = t;
+          })
+
+      pub poke_word : (x p : ℕ) → instruction S.code a ≡ Some (Poke true x p) → Piece 3 v
+      poke_word x p e =
+          let i = Poke true x p in
+          let q = a.values p in
+          let n = a.values x in
+          let inside = may i e in
+          let lx = (names i e).read 0 0 (omega arith) in
+          let lp = (names i e).read 1 0 (omega arith) in
+          let u = pointed p in
+          let stack' = with_word_at v.stack (v.sp + q) n in
+          let w = passed (record u { stack = stack' }) (4 + further (at_home (home x))) in
+          let fits' = inside.inside in let r = room_of_frame in let ev = h.told.even_sp in let al = inside.aligned in
+          let small = (placed.values x lx).2 in
+          let calm = tame v.sr _ _ _ _ in
+          let low = λ (r : ℕ) (lo : r < 12). low_registers (changed_at v.regs 12 q) _ r lo ∙ low_registers v.regs q r lo in
+          point p 1 (moved false (at_home (home x)) (Indexed 12 0) ∷ []) lp (omega (arith, fits')) (stands i e)
+          (λ st t has'.
+          let at = marked S a.f u.pc end [] (Two op2.Mov false (at_home (home x)) (Indexed 12 0)) [] st in
+          let pc0 = behind_two S a.f u.pc end [] op2.Mov false (at_home (home x)) (Indexed 12 0) [] st in
+          one 0 u w t refl (poke_rule S.image S.data_end S.marks S.c.sp u (Of (home x)) 12 n (v.sp + q) (ready S left most P u t) at (has_here u.regs x low lx) has' (omega (arith, ev, al)) (omega arith) (omega (arith, fits', r)))
+          (poked_here i e refl refl q (poked true (fn S a).frame a.frame q n) stack' u.regs w.pc u.sr (bit u.sr 3) (stepped i e)
+          (λ b le. word_above v.stack (v.sp + q) n b (omega (arith, le, fits')))
+          (λ y slot. let es = slot.even in word_other v.stack (v.sp + q) (v.sp + y) n (omega (arith, ev, al)) (omega (arith, ev, es)) (λ z. ⊎_elim (λ l. omega (arith, l, z)) (λ g. omega (arith, g, z)) (inside.apart y slot.begins)))
+          (λ o free. word_poked v.stack a.frame (fn S a).frame v.sp q o n fits' small (placed.bytes o free))
+          (ap (λ m. u.pc + m) (turned (further (at_home (home x)))) ∙ pc0) low calm.gie (settled S t)))
+
+      pub poke_byte' : (x p : ℕ) → instruction S.code a ≡ Some (Poke false x p) → Piece 3 v
+      poke_byte' x p e =
+          let i = Poke false x p in
+          let q = a.values p in
+          let n = a.values x in
+          let inside = may i e in
+          let lx = (names i e).read 0 0 (omega arith) in
+          let lp = (names i e).read 1 0 (omega arith) in
+          let u = pointed p in
+          let stack' = changed_at v.stack (v.sp + q) (n % 256) in
+          let w = passed (record u { stack = stack' }) (4 + further (at_home (home x))) in
+          let fits' = inside.inside in let r = room_of_frame in
+          let calm = tame v.sr _ _ _ _ in
+          let low = λ (r : ℕ) (lo : r < 12). low_registers (changed_at v.regs 12 q) _ r lo ∙ low_registers v.regs q r lo in
+          point p 1 (moved true (at_home (home x)) (Indexed 12 0) ∷ []) lp (omega (arith, fits')) (stands i e)
+          (λ st t has'.
+          let at = marked S a.f u.pc end [] (Two op2.Mov true (at_home (home x)) (Indexed 12 0)) [] st in
+          let pc0 = behind_two S a.f u.pc end [] op2.Mov true (at_home (home x)) (Indexed 12 0) [] st in
+          one 0 u w t refl (poke_a_byte S.image S.data_end S.marks S.c.sp u (Of (home x)) 12 n (v.sp + q) (ready S left most P u t) at (has_here u.regs x low lx) has' (omega arith) (omega (arith, fits', r)))
+          (poked_here i e refl refl q (poked false (fn S a).frame a.frame q n) stack' u.regs w.pc u.sr (bit u.sr 3) (stepped i e)
+          (λ b le. byte_other v.stack (v.sp + q) (n % 256) b (λ z. omega (arith, le, fits', z)))
+          (λ y slot. word_on v.stack stack' (v.sp + y)
+          (byte_other v.stack (v.sp + q) (n % 256) (v.sp + y) (λ z. ⊎_elim (λ l. omega (arith, l, z)) (λ g. omega (arith, g, z)) (inside.apart y slot.begins)))
+          (byte_other v.stack (v.sp + q) (n % 256) (v.sp + y + 1) (λ z. ⊎_elim (λ l. omega (arith, l, z)) (λ g. omega (arith, g, z)) (inside.apart y slot.begins))))
+          (λ o free. byte_poked v.stack a.frame (fn S a).frame v.sp q o n fits' (placed.bytes o free))
+          (ap (λ m. u.pc + m) (turned (further (at_home (home x)))) ∙ pc0) low calm.gie (settled S t)))
