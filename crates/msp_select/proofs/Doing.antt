@@ -254,16 +254,16 @@ module _ (S : Setting) (left : List Activation → ℕ) (most : ℕ) (P : Premis
       abbrev pub steady : (i : Mid) → Type 0
       steady i = opens_behind (Some i) (h.opens ∷ h.outer) ≡ h.opens ∷ h.outer
 
-      opened : (i : Mid) → instruction S.code a ≡ Some i → steady i → opens_behind (instruction S.code a) (h.opens ∷ h.outer) ≡ h.opens ∷ h.outer
+      pub opened : (i : Mid) → instruction S.code a ≡ Some i → steady i → opens_behind (instruction S.code a) (h.opens ∷ h.outer) ≡ h.opens ∷ h.outer
       opened i e o = ap (λ x. opens_behind x (h.opens ∷ h.outer)) e ∙ o
 
-      abbrev end : ℕ
+      abbrev pub end : ℕ
       end = S.places a.f (a.at + 1)
 
-      abbrev home : ℕ → Home
+      abbrev pub home : ℕ → Home
       home x = S.homes a.f x
 
-      stepped : (i : Mid) → instruction S.code a ≡ Some i → step S.code (a ∷ rest) ≡ perform (Some i) S.code (fn S a) a rest
+      pub stepped : (i : Mid) → instruction S.code a ≡ Some i → step S.code (a ∷ rest) ≡ perform (Some i) S.code (fn S a) a rest
       stepped i e = ap (λ o. perform o S.code (fn S a) a rest) e
 
       pub set : (x n : ℕ) → instruction S.code a ≡ Some (Set x n) → Piece 1 v
@@ -299,7 +299,7 @@ module _ (S : Setting) (left : List Activation → ℕ) (most : ℕ) (P : Premis
           (goes S.code S.root (a ∷ rest) (h.opens ∷ h.outer) v.made v.answers h.reached (write a x n ∷ rest) (h.opens ∷ h.outer) next (opened (Move x y) e refl)) refl (settled S h.told)))
 
       -- R12 is moved to its home, and the call goes on behind
-      finish : (x n : ℕ) (i : Mid) → instruction S.code a ≡ Some i → steady i → goes_elsewhere i ≡ false → step S.code (a ∷ rest) ≡ Goes (write a x n ∷ rest) → x < (fn S a).values → n < 0x10000 →
+      pub finish : (x n : ℕ) (i : Mid) → instruction S.code a ≡ Some i → steady i → goes_elsewhere i ≡ false → step S.code (a ∷ rest) ≡ Goes (write a x n ∷ rest) → x < (fn S a).values → n < 0x10000 →
           (pc sr : ℕ) (gate : Bool) (regs : ℕ → ℕ) → Stand S a.f pc (moving (Of scratch) (home x) ∷ []) end → ToldAt S v.made v.answers v.sp sr gate v.faulted → bit sr 3 ≡ bit v.sr 3 → ((r : ℕ) → r < 12 → regs r ≡ v.regs r) → regs 12 ≡ n →
           Piece 1 (record v { pc = pc; sr = sr; gate = gate; regs = regs })
       finish x n i e o on next lt small pc sr gate regs st t gie' low is =
@@ -314,11 +314,11 @@ module _ (S : Setting) (left : List Activation → ℕ) (most : ℕ) (P : Premis
           (goes S.code S.root (a ∷ rest) (h.opens ∷ h.outer) v.made v.answers h.reached (write a x n ∷ rest) (h.opens ∷ h.outer) next (opened i e o)) refl (settled S t)))
 
       -- a view behind an operation
-      abbrev operated : View → Home → ℕ → ℕ → ℕ → View
+      abbrev pub operated : View → Home → ℕ → ℕ → ℕ → View
       operated u k bytes n sr = with_result (passed u bytes) k (record { result = n; is_written = true; sr = sr })
 
       -- an operation of a value on R12 or on a home
-      operation_on : (u : View) (o : Op) (y : ℕ) (k : Home) (p : ℕ) → ToldAt S u.made u.answers u.sp u.sr u.gate u.faulted → u.sp ≡ v.sp → u.stack ≡ v.stack → ((r : ℕ) → r < 12 → u.regs r ≡ v.regs r) → y < (fn S a).values → p < 0x10000 →
+      pub operation_on : (u : View) (o : Op) (y : ℕ) (k : Home) (p : ℕ) → ToldAt S u.made u.answers u.sp u.sr u.gate u.faulted → u.sp ≡ v.sp → u.stack ≡ v.stack → ((r : ℕ) → r < 12 → u.regs r ≡ v.regs r) → y < (fn S a).values → p < 0x10000 →
           IsMarked S.image S.marks u.pc [] (Two (operator o) false (at_home (home y)) (at_home k)) → HasAt (S.c.sp + 2) u.sp u.regs u.stack (Of k) p →
           Takes S.image S.data_end S.marks S.c.sp u (operated u k (2 + further (at_home (home y)) + further (at_home k)) (words.operate o p (a.values y)) (operate (operator o) false u.sr (a.values y) p).sr)
       operation_on u o y k p t es ek low ly small at has' =
@@ -388,17 +388,17 @@ module _ (S : Setting) (left : List Activation → ℕ) (most : ℕ) (P : Premis
 
       -- ---- actions
 
-      abbrev home_here : (x : ℕ) → x < (fn S a).values → IsHomeAt (S.c.sp + 2) v.sp (home x)
+      abbrev pub home_here : (x : ℕ) → x < (fn S a).values → IsHomeAt (S.c.sp + 2) v.sp (home x)
       home_here x lt = home_of S left most P a h.opens (bit v.sr 3) h.first v.sp v.regs v.stack placed x lt
 
-      abbrev has_here : (regs' : ℕ → ℕ) (x : ℕ) → ((r : ℕ) → r < 12 → regs' r ≡ v.regs r) → x < (fn S a).values → HasAt (S.c.sp + 2) v.sp regs' v.stack (Of (home x)) (a.values x)
+      abbrev pub has_here : (regs' : ℕ → ℕ) (x : ℕ) → ((r : ℕ) → r < 12 → regs' r ≡ v.regs r) → x < (fn S a).values → HasAt (S.c.sp + 2) v.sp regs' v.stack (Of (home x)) (a.values x)
       has_here regs' x low lt = has S left most P a h.opens (bit v.sr 3) h.first v.sp v.regs v.stack placed regs' x low lt
 
       -- an action was done, or answered
-      did_reached : (d : Action) (i : Mid) → instruction S.code a ≡ Some i → steady i → (s' : List Activation) → step S.code (a ∷ rest) ≡ Acts d s' → Reached S.code S.root s' (h.opens ∷ h.outer) (v.made ++ (d ∷ [])) v.answers
+      pub did_reached : (d : Action) (i : Mid) → instruction S.code a ≡ Some i → steady i → (s' : List Activation) → step S.code (a ∷ rest) ≡ Acts d s' → Reached S.code S.root s' (h.opens ∷ h.outer) (v.made ++ (d ∷ [])) v.answers
       did_reached d i e o s' next = acts S.code S.root (a ∷ rest) (h.opens ∷ h.outer) v.made v.answers h.reached d s' (h.opens ∷ h.outer) next (opened i e o)
 
-      got_reached : (d : Action) (i : Mid) → instruction S.code a ≡ Some i → steady i → (s' : ℕ → List Activation) (x : ℕ) → x < 0x10000 → step S.code (a ∷ rest) ≡ Wants d s' → Reached S.code S.root (s' x) (h.opens ∷ h.outer) (v.made ++ (d ∷ [])) (v.answers ++ (x ∷ []))
+      pub got_reached : (d : Action) (i : Mid) → instruction S.code a ≡ Some i → steady i → (s' : ℕ → List Activation) (x : ℕ) → x < 0x10000 → step S.code (a ∷ rest) ≡ Wants d s' → Reached S.code S.root (s' x) (h.opens ∷ h.outer) (v.made ++ (d ∷ [])) (v.answers ++ (x ∷ []))
       got_reached d i e o s' x small next = wants S.code S.root (a ∷ rest) (h.opens ∷ h.outer) v.made v.answers h.reached d s' (h.opens ∷ h.outer) x small next (opened i e o)
 
       even_of : (n : ℕ) → n % 2 ≡ 0 → even n ≡ n

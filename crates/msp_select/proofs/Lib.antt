@@ -3,5 +3,7 @@ pub mod Reached
 pub mod Relation
 pub mod Kept
 pub mod Bytes
+pub mod Compare
 pub mod Flags
 pub mod Doing
+pub mod Jumping

@@ -135,8 +135,9 @@ module _ (c : MidCode) (home : ℕ → Home) (own : ℕ) where
   stored false v = moved true (operand_of (value v)) (Indexed 12 0) ∷ []
 
   abbrev pub carried : Op → (v x y : ℕ) → List Part
-  carried op.Add v x y = moving (value x) scratch ∷ two op2.Add (value y) scratch ∷ moving (literal 0) (home v) ∷ two op2.Addc (literal 0) (home v) ∷ []
-  carried op.Sub v x y = two op2.Cmp (value y) (home x) ∷ moving (literal 0) (home v) ∷ two op2.Addc (literal 0) (home v) ∷ two op2.Xor (literal 1) (home v) ∷ []
+  carried op.Add v x y = moving (value x) scratch ∷ two op2.Add (value y) scratch ∷ moving (literal 0) scratch ∷ two op2.Addc (literal 0) scratch ∷ moving (Of scratch) (home v) ∷ []
+  -- C is set where nothing was borrowed
+  carried op.Sub v x y = two op2.Cmp (value y) (home x) ∷ moving (literal 0) scratch ∷ two op2.Addc (literal 0) scratch ∷ two op2.Xor (literal 1) scratch ∷ moving (Of scratch) (home v) ∷ []
   carried _ v x y = moving (literal 0) (home v) ∷ []
 
   abbrev pub compared : Test → (x y : ℕ) → Part

@@ -76,6 +76,8 @@ module _ (code : MidCode) (homes : ℕ → ℕ → Home) (own deep : ℕ → ℕ
   pub record IsStanding (image : ℕ → ℕ) (marks : ℕ → List Action) (entries : ℕ → ℕ) (places : ℕ → ℕ → ℕ) : Type 0 where
     pub even_entry : (f : ℕ) → f < length code.fns → even (entries f) ≡ entries f
     pub small_entry : (f : ℕ) → f < length code.fns → entries f < 0x10000
+    pub even_place : (f at : ℕ) → f < length code.fns → at < length (fn_of code f).code → even (places f at) ≡ places f at
+    pub small_place : (f at : ℕ) → f < length code.fns → at < length (fn_of code f).code → places f at < 0x10000
     pub entry : (f : ℕ) → f < length code.fns → PartsStand image marks entries (λ l. places f (place_of (fn_of code f).code l)) (entries f) (entry_of (own f)) (places f 0)
     pub body : (f at : ℕ) (i : Mid) → f < length code.fns → slice_get (fn_of code f).code at ≡ Some i →
         PartsStand image marks entries (λ l. places f (place_of (fn_of code f).code l)) (places f at) (parts_of code (homes f) (own f) i) (places f (at + 1))

@@ -85,7 +85,8 @@ masked sr =
 -- sums of flags on a number that has none of them
 flag_sum : (x c z n v : ℕ) → x % 8 ≡ 0 → x / 256 % 2 ≡ 0 → c ≤ 1 → z ≤ 1 → n ≤ 1 → v ≤ 1 →
     ((x + c + 2 * z + 4 * n + 256 * v) / 8 % 2 ≡ x / 8 % 2) × ((x + c + 2 * z + 4 * n + 256 * v) / 16 % 2 ≡ x / 16 % 2) × ((x + c + 2 * z + 4 * n + 256 * v) / 2 % 2 ≡ z) × ((x + c + 2 * z + 4 * n + 256 * v) / 1 % 2 ≡ c)
-flag_sum x c z n v e8 e256 hc hz hn hv = (omega arith, omega arith, omega arith, omega arith)
+    × ((x + c + 2 * z + 4 * n + 256 * v) / 4 % 2 ≡ n) × ((x + c + 2 * z + 4 * n + 256 * v) / 256 % 2 ≡ v)
+flag_sum x c z n v e8 e256 hc hz hn hv = (omega arith, omega arith, omega arith, omega arith, omega arith, omega arith)
 
 number_back : (t : Bool) → (number_of t == 1) ≡ t
 number_back true = refl
@@ -93,6 +94,7 @@ number_back false = refl
 
 module _ (sr : ℕ) (c z n v : Bool) where
   sum : (with_flags sr c z n v / 8 % 2 ≡ bit_and sr 0xFEF8 / 8 % 2) × (with_flags sr c z n v / 16 % 2 ≡ bit_and sr 0xFEF8 / 16 % 2) × (with_flags sr c z n v / 2 % 2 ≡ number_of z) × (with_flags sr c z n v / 1 % 2 ≡ number_of c)
+      × (with_flags sr c z n v / 4 % 2 ≡ number_of n) × (with_flags sr c z n v / 256 % 2 ≡ number_of v)
   sum = flag_sum (bit_and sr 0xFEF8) (number_of c) (number_of z) (number_of n) (number_of v) (masked sr).0 (masked sr).1 (one c) (one z) (one n) (one v)
 
   pub flags_gie : bit (with_flags sr c z n v) 3 ≡ bit sr 3
@@ -106,6 +108,12 @@ module _ (sr : ℕ) (c z n v : Bool) where
 
   pub flags_carry : bit (with_flags sr c z n v) 0 ≡ c
   flags_carry = ap (λ x. x == 1) sum.3 ∙ number_back c
+
+  pub flags_negative : bit (with_flags sr c z n v) 2 ≡ n
+  flags_negative = ap (λ x. x == 1) sum.4 ∙ number_back n
+
+  pub flags_overflow : bit (with_flags sr c z n v) 8 ≡ v
+  flags_overflow = ap (λ x. x == 1) sum.5 ∙ number_back v
 
 pub closed_gie : (sr : ℕ) → bit (bit_and sr 0xFFF7) 3 ≡ false
 closed_gie sr = ap (λ x. x == 1) (bit_at_and sr 0xFFF7 3 ∙ min_zero (sr / 8 % 2))
