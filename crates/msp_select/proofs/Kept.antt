@@ -152,7 +152,7 @@ module _ (S : Setting) where
           let k = p.values v lt in
           (k.0, held_scratch sp regs regs' stack (S.own a.f + 2 + 2 * words_of a.f) (S.homes a.f v) (kept v lt) same ∙ k.1, k.2)
 
-      put_value : (x n : ℕ) (regs' : ℕ → ℕ) → x < (fn S a).values → n < 0x10000 → ((r : ℕ) → r < 12 → regs' r ≡ put_regs (S.homes a.f x) n regs r) → (w : ℕ) → w < (fn S a).values →
+      pub put_value : (x n : ℕ) (regs' : ℕ → ℕ) → x < (fn S a).values → n < 0x10000 → ((r : ℕ) → r < 12 → regs' r ≡ put_regs (S.homes a.f x) n regs r) → (w : ℕ) → w < (fn S a).values →
           (((w == x) ≡ true) × (w ≡ x)) ⊎ (((w == x) ≡ false) × (w ≢ x)) →
           HasAt (S.c.sp + 2) sp regs' (put_stack (S.homes a.f x) n sp stack) (Of (S.homes a.f w)) (put a.values x n w)
       put_value x n regs' lt small same w ltw (inl e) =
@@ -226,7 +226,7 @@ module _ (S : Setting) where
       }
 
       -- a home's word lies behind the frame's bytes
-      home_behind : (h : Home) (regs' : ℕ → ℕ) (stack' : ℕ → ℕ) → IsPlace S.code S.homes S.own S.deep a.f h → ((r : ℕ) → r < 12 → regs' r ≡ regs r) → SameFrom (sp + (fn S a).frame) stack stack' → held_at sp regs' stack' h ≡ held_at sp regs stack h
+      pub home_behind : (h : Home) (regs' : ℕ → ℕ) (stack' : ℕ → ℕ) → IsPlace S.code S.homes S.own S.deep a.f h → ((r : ℕ) → r < 12 → regs' r ≡ regs r) → SameFrom (sp + (fn S a).frame) stack stack' → held_at sp regs' stack' h ≡ held_at sp regs stack h
       home_behind (InRegister r) regs' stack' place low same = low r place.1
       home_behind (InFrame x) regs' stack' place low same = let f = place.1 in word_on stack stack' (sp + x) (same (sp + x) (omega (arith, f))) (same (sp + x + 1) (omega (arith, f)))
 

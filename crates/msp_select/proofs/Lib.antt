@@ -7,3 +7,4 @@ pub mod Compare
 pub mod Flags
 pub mod Doing
 pub mod Jumping
+pub mod Atomic
