@@ -8,3 +8,4 @@ pub mod Flags
 pub mod Doing
 pub mod Jumping
 pub mod Atomic
+pub mod Calling

@@ -161,7 +161,7 @@ module _ (c : MidCode) (home : ℕ → Home) (own : ℕ) where
   parts_of (Jump l) = record { silent = []; item = item.Jump Jmp l } ∷ []
   parts_of (Branch t x y l) = compared t x y ∷ record { silent = []; item = item.Jump (taken_by t) l } ∷ []
   parts_of (Call g ins outs) =
-      pushes 0 (pushed (fn_of c g).params ins) ++ (record { silent = []; item = item.CallFn g } ∷ raised (2 * count_pushed (fn_of c g).params)) ++ takes 12 outs
+      pushes 0 (pushed (fn_of c g).params ins) ++ (record { silent = []; item = item.CallFn g } ∷ (raised (2 * count_pushed (fn_of c g).params) ++ takes 12 outs))
   parts_of (Help h ins outs) = gives 12 ins ++ (record { silent = []; item = item.CallFn (routine_of (length c.fns) h) } ∷ takes 12 outs)
   parts_of (Ret vs) = gives 12 vs ++ (raised own ++ return ∷ [])
   parts_of (Begin o) = moved false (Reg 2) (Indexed 1 o) ∷ plain (instr.Two op2.Bic false (Constant 8) (Reg 2)) ∷ nop (action.Begin ∷ []) ∷ []
