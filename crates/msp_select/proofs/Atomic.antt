@@ -67,12 +67,12 @@ module _ (S : Setting) where
   saved_mode f stack sp now [] first n m h = record { none = λ e. h ∙ m.none (omega (arith, e)); some = λ lt. h ∙ m.some (omega (arith, lt)); closed = λ k. h ∙ m.closed k }
   saved_mode f stack sp now (x ∷ xs) first n m h = record { none = λ e. absurd (some_open (length xs) n e); some = λ lt. h.0; closed = λ k. h.0 }
 
-  pub callers_mode : (stack : ℕ → ℕ) (now : Bool) (s words : ℕ) (rest : List Activation) (outer : List (List ℕ)) → Callers S stack now s words rest outer → Mode now (total S outer)
-  callers_mode stack now s words [] [] h = record { none = λ e. h.2; some = λ lt. absurd (omega (arith, lt)); closed = λ k. h.2 ∙ k }
-  callers_mode stack now s words [] (o ∷ outer) h = absurd h
-  callers_mode stack now s words (a ∷ rest) [] h = absurd h
-  callers_mode stack now s words (a ∷ rest) (opens ∷ outer) h =
-      saved_mode a.f stack (s + 2 + 2 * words) now opens h.0 (total S outer) (callers_mode stack h.0 (s + 2 + 2 * words + S.own a.f) (words_of S a.f) rest outer h.2) (h.1.placed (λ r. 0)).saved
+  pub callers_mode : (stack : ℕ → ℕ) (now : Bool) (s f : ℕ) (rest : List Activation) (outer : List (List ℕ)) → Callers S stack now s f rest outer → Mode now (total S outer)
+  callers_mode stack now s f [] [] h = record { none = λ e. h.2; some = λ lt. absurd (omega (arith, lt)); closed = λ k. h.2 ∙ k }
+  callers_mode stack now s f [] (o ∷ outer) h = absurd h
+  callers_mode stack now s f (a ∷ rest) [] h = absurd h
+  callers_mode stack now s f (a ∷ rest) (opens ∷ outer) h =
+      saved_mode a.f stack (s + 2 + 2 * words_of S f) now opens h.0 (total S outer) (callers_mode stack h.0 (s + 2 + 2 * words_of S f + S.own a.f) a.f rest outer h.2) (h.1.placed (λ r. 0)).saved
 
   all_apart : (x : ℕ) (xs : List ℕ) → All (AreApart 2 x) xs → AllApart S x xs
   all_apart x [] h = tt
@@ -238,7 +238,7 @@ module _ (S : Setting) (left : List Activation → ℕ) (most : ℕ) (P : Premis
             let next : step S.code (a ∷ rest) ≡ Acts action.End (g ∷ rest) = stepped S left most P a rest v h m0 made0 few since (End x) e in
             let opens' : opens_behind (instruction S.code a) (h.opens ∷ h.outer) ≡ xs ∷ h.outer = ap (λ i. opens_behind i (h.opens ∷ h.outer)) e ∙ ap (λ o. drop 1 o ∷ h.outer) eo in
             let reached = acts S.code S.root (a ∷ rest) (h.opens ∷ h.outer) v.made v.answers h.reached action.End (g ∷ rest) (xs ∷ h.outer) next opens' in
-            let mode = saved_mode S a.f v.stack v.sp (bit word 3) xs h.first (total S h.outer) (callers_mode S v.stack h.first (v.sp + S.own a.f) (words_of S a.f) rest h.outer h.callers) s.5 in
+            let mode = saved_mode S a.f v.stack v.sp (bit word 3) xs h.first (total S h.outer) (callers_mode S v.stack h.first (v.sp + S.own a.f) a.f rest h.outer h.callers) s.5 in
             let was : nested 0 v.made ≡ suc (length xs + total S h.outer) = h.nest ∙ ap (λ l. length l + total S h.outer) eo ∙ sym (one_more (length xs) (total S h.outer)) in
             let count : nested 0 z.made ≡ length xs + total S h.outer = nested_on 0 v.made action.End ∙ ap (λ n. n - 1) was ∙ less_one (length xs + total S h.outer) in
             let within : is_nested v.made ≡ true = ap (λ n. nat_lt 0 n) was ∙ above_zero (length xs + total S h.outer) in

@@ -254,18 +254,16 @@ module _ (S : Setting) (left : List Activation → ℕ) (most : ℕ) (P : Premis
           let all : SameFrom S v.sp v.stack stack1 = λ b le. over b (omega (arith, le, split)) ∙ same b le in
           let t2 = moved S (base - 2) (omega (arith, split, lo, depth)) (let b = t.below in omega (arith, b)) (omega (arith, eb, deep')) (settled S t) in
           let at_a : base - 2 + 2 + 2 * words ≡ v.sp = omega (arith, deep', split) in
-          let caller : IsCaller S stack1 (bit v.sr 3) h.first (base - 2) words a h.opens = record {
-            callee = g;
+          let caller : IsCaller S stack1 (bit v.sr 3) h.first (base - 2) g a h.opens = record {
             passed = ins;
             taken = outs;
             call = e;
-            parameters = refl;
             even_ret = ap even word ∙ (let z : even ret ≡ ret = omega (arith, ev) in z) ∙ sym word;
             small_ret = subst (λ m. m < 0x10000) (sym word) (omega (arith, hi));
             stands = subst (λ m. PartsStand S.image S.marks S.entries (labels S a.f) m (raised (2 * words) ++ takes S.code (S.homes a.f) (S.own a.f) 12 outs) (S.places a.f (a.at + 1))) (sym st.1.at.1 ∙ sym word) st.2;
             placed = λ regs. subst (λ s. Placed S a h.opens (bit v.sr 3) h.first s regs stack1) (sym at_a) (placed_on S a h.opens (bit v.sr 3) h.first v.sp regs v.stack stack1 all (any_regs h.opens (bit v.sr 3) h.first v.sp v.regs regs v.stack p));
           } in
-          let below = callers_on S v.stack stack1 h.first (v.sp + S.own a.f) (words_of S a.f) rest h.outer (λ b le far. all b (omega (arith, le))) h.callers in
+          let below = callers_on S v.stack stack1 h.first (v.sp + S.own a.f) a.f rest h.outer (λ b le far. all b (omega (arith, le))) h.callers in
           one S left most P a rest v h m0 made0 few since 0 u w t refl (call S.image S.data_end S.marks S.c.sp u (S.entries g) (ready S left most P u t) (omega (arith, split, lo, depth, room)) at (P.standing.even_entry g fit.0) (P.standing.small_entry g fit.0))
           (begun S left most P a rest v h m0 made0 few since (entry S.code g (map a.values ins)) (a ∷ rest) w next bound (inl (record {
             outer = h.opens ∷ h.outer;
@@ -279,7 +277,7 @@ module _ (S : Setting) (left : List Activation → ℕ) (most : ℕ) (P : Premis
                 (ap (λ s. word_in stack1 (s + 2 * pushed_behind (fn_of S.code g).params y)) up
                 ∙ word_on stack stack1 (base + 2 * pushed_behind (fn_of S.code g).params y) (over (base + 2 * pushed_behind (fn_of S.code g).params y) (omega arith)) (over (base + 2 * pushed_behind (fn_of S.code g).params y + 1) (omega arith)) ∙ r.0, r.1);
             pc = refl;
-            callers = (h.first, caller, subst (λ s. Callers S stack1 h.first (s + S.own a.f) (words_of S a.f) rest h.outer) (sym at_a) below);
+            callers = (h.first, caller, subst (λ s. Callers S stack1 h.first (s + S.own a.f) a.f rest h.outer) (sym at_a) below);
             low = omega (arith, split, lo, depth);
             room = omega (arith, split, ro, deep');
             reached = reached;

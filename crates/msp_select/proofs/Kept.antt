@@ -36,6 +36,7 @@ pub record Premises (S : Setting) (left : List Activation → ℕ) (most : ℕ) 
   pub paced : IsPaced S.code S.root left most
   pub root : S.root < length S.code.fns
   pub params : (fn_of S.code S.root).params ≡ []
+  pub given : S.gives ≡ form.gives S.root
   pub start : IsStart S.data_end (S.entries S.root) (S.deep S.root) S.c S.ram
   pub low_end : 0x1100 ≤ S.data_end
 
@@ -109,30 +110,29 @@ module _ (S : Setting) where
     even_sp = p.even_sp;
   }
 
-  pub callers_on : (stack stack' : ℕ → ℕ) (now : Bool) (s words : ℕ) (rest : List Activation) (outer : List (List ℕ)) → SameAbove s words stack stack' → Callers S stack now s words rest outer → Callers S stack' now s words rest outer
-  callers_on stack stack' now s words [] [] same h =
+  pub callers_on : (stack stack' : ℕ → ℕ) (now : Bool) (s f : ℕ) (rest : List Activation) (outer : List (List ℕ)) → SameAbove s (words_of f) stack stack' → Callers S stack now s f rest outer → Callers S stack' now s f rest outer
+  callers_on stack stack' now s f [] [] same h =
       let e = h.0 in
       (h.0, h.1, h.2, subst (λ n. word_in stack' n ≡ word_in S.ram S.c.sp) e
       (word_on stack stack' s (same s (omega arith) (inl (omega arith))) (same (s + 1) (omega arith) (inl (omega arith))) ∙ ap (word_in stack) e ∙ h.3))
-  callers_on stack stack' now s words [] (o ∷ outer) same h = absurd h
-  callers_on stack stack' now s words (a ∷ rest) [] same h = absurd h
-  callers_on stack stack' now s words (a ∷ rest) (opens ∷ outer) same h =
+  callers_on stack stack' now s f [] (o ∷ outer) same h = absurd h
+  callers_on stack stack' now s f (a ∷ rest) [] same h = absurd h
+  callers_on stack stack' now s f (a ∷ rest) (opens ∷ outer) same h =
       let k = h.1 in
+      let words = words_of f in
       let e : word_in stack' s ≡ word_in stack s = word_on stack stack' s (same s (omega arith) (inl (omega arith))) (same (s + 1) (omega arith) (inl (omega arith))) in
       let from : SameFrom (s + 2 + 2 * words) stack stack' = λ b le. same b (omega arith) (inr le) in (
         h.0,
         record {
-          callee = k.callee;
           passed = k.passed;
           taken = k.taken;
           call = k.call;
-          parameters = k.parameters;
           even_ret = ap even e ∙ k.even_ret ∙ sym e;
           small_ret = subst (λ n. n < 0x10000) (sym e) k.small_ret;
           stands = subst (λ n. PartsStand S.image S.marks S.entries (labels S a.f) n (raised (2 * words) ++ takes S.code (S.homes a.f) (S.own a.f) 12 k.taken) (S.places a.f (a.at + 1))) (sym e) k.stands;
           placed = λ regs. placed_on a opens now h.0 (s + 2 + 2 * words) regs stack stack' from (k.placed regs);
         },
-        callers_on stack stack' h.0 (s + 2 + 2 * words + S.own a.f) (words_of a.f) rest outer (λ b lo where'. from b (omega (arith, lo))) h.2,
+        callers_on stack stack' h.0 (s + 2 + 2 * words + S.own a.f) a.f rest outer (λ b lo where'. from b (omega (arith, lo))) h.2,
       )
 
   module _ (left : List Activation → ℕ) (most : ℕ) (P : Premises S left most) where
@@ -210,8 +210,8 @@ module _ (S : Setting) where
             even_sp = p.even_sp;
           }
 
-      pub callers_wrote : (x n : ℕ) (rest : List Activation) (outer : List (List ℕ)) → x < (fn S a).values → Callers S stack first (sp + S.own a.f) (words_of a.f) rest outer → Callers S (put_stack (S.homes a.f x) n sp stack) first (sp + S.own a.f) (words_of a.f) rest outer
-      callers_wrote x n rest outer lt h = callers_on stack (put_stack (S.homes a.f x) n sp stack) first (sp + S.own a.f) (words_of a.f) rest outer (above_kept (S.homes a.f x) n (framed.kept x lt)) h
+      pub callers_wrote : (x n : ℕ) (rest : List Activation) (outer : List (List ℕ)) → x < (fn S a).values → Callers S stack first (sp + S.own a.f) a.f rest outer → Callers S (put_stack (S.homes a.f x) n sp stack) first (sp + S.own a.f) a.f rest outer
+      callers_wrote x n rest outer lt h = callers_on stack (put_stack (S.homes a.f x) n sp stack) first (sp + S.own a.f) a.f rest outer (above_kept (S.homes a.f x) n (framed.kept x lt)) h
 
       -- no value is written
       pub placed_stayed : (at : ℕ) (now' : Bool) (regs' : ℕ → ℕ) → ((r : ℕ) → r < 12 → regs' r ≡ regs r) → now' ≡ now → Placed S (at_place a at) opens now' first sp regs' stack
@@ -243,8 +243,8 @@ module _ (S : Setting) where
         even_sp = p.even_sp;
       }
 
-      pub callers_poked : (stack' : ℕ → ℕ) (rest : List Activation) (outer : List (List ℕ)) → SameFrom (sp + (fn S a).frame) stack stack' → Callers S stack first (sp + S.own a.f) (words_of a.f) rest outer → Callers S stack' first (sp + S.own a.f) (words_of a.f) rest outer
-      callers_poked stack' rest outer same h = callers_on stack stack' first (sp + S.own a.f) (words_of a.f) rest outer (λ b lo far. same b (let f = framed.frame in omega (arith, lo, f))) h
+      pub callers_poked : (stack' : ℕ → ℕ) (rest : List Activation) (outer : List (List ℕ)) → SameFrom (sp + (fn S a).frame) stack stack' → Callers S stack first (sp + S.own a.f) a.f rest outer → Callers S stack' first (sp + S.own a.f) a.f rest outer
+      callers_poked stack' rest outer same h = callers_on stack stack' first (sp + S.own a.f) a.f rest outer (λ b lo far. same b (let f = framed.frame in omega (arith, lo, f))) h
 
     -- what an instruction may rely on
     pub ready : (v : View) → Told S v → IsRoomAt S.data_end (S.c.sp + 2) v.sp × (bit v.sr 4 ≡ false) × (v.faulted ≡ None)

@@ -9,3 +9,4 @@ pub mod Doing
 pub mod Jumping
 pub mod Atomic
 pub mod Calling
+pub mod Returning

@@ -85,23 +85,22 @@ module _ (S : Setting) where
     pub room : sp + extent a ≤ S.c.sp + 2
     pub even_sp : even sp ≡ sp
 
-  -- a call that waits for one with so many parameters, whose return address stands at s
-  pub record IsCaller (stack : ℕ → ℕ) (now first : Bool) (s words : ℕ) (a : Activation) (opens : List ℕ) : Type 0 where
-    pub callee : ℕ
+  -- a call that waits for one of function f, whose return address stands at s
+  pub record IsCaller (stack : ℕ → ℕ) (now first : Bool) (s f : ℕ) (a : Activation) (opens : List ℕ) : Type 0 where
     pub passed : List ℕ
     pub taken : List ℕ
-    pub call : instruction S.code a ≡ Some (Call callee passed taken)
-    pub parameters : words ≡ parameters S.code S.homes S.own S.deep callee
+    pub call : instruction S.code a ≡ Some (Call f passed taken)
     pub even_ret : even (word_in stack s) ≡ word_in stack s
     pub small_ret : word_in stack s < 0x10000
-    pub stands : PartsStand S.image S.marks S.entries (labels a.f) (word_in stack s) (raised (2 * words) ++ takes S.code (S.homes a.f) (S.own a.f) 12 taken) (S.places a.f (a.at + 1))
-    pub placed : (regs : ℕ → ℕ) → Placed a opens now first (s + 2 + 2 * words) regs stack
+    pub stands : PartsStand S.image S.marks S.entries (labels a.f) (word_in stack s) (raised (2 * parameters S.code S.homes S.own S.deep f) ++ takes S.code (S.homes a.f) (S.own a.f) 12 taken) (S.places a.f (a.at + 1))
+    pub placed : (regs : ℕ → ℕ) → Placed a opens now first (s + 2 + 2 * parameters S.code S.homes S.own S.deep f) regs stack
 
-  abbrev pub Callers : (ℕ → ℕ) → Bool → (s words : ℕ) → List Activation → List (List ℕ) → Type 0
-  Callers stack now s words [] [] = (s ≡ S.c.sp) × (words ≡ 0) × (now ≡ bit S.c.sr 3) × (word_in stack S.c.sp ≡ word_in S.ram S.c.sp)
-  Callers stack now s words (a ∷ rest) (opens ∷ outer) =
-      (first : Bool) × IsCaller stack now first s words a opens × Callers stack first (s + 2 + 2 * words + S.own a.f) (parameters S.code S.homes S.own S.deep a.f) rest outer
-  Callers stack now s words _ _ = ⊥
+  -- the calls below one of function f, whose return address stands at s
+  abbrev pub Callers : (ℕ → ℕ) → Bool → (s f : ℕ) → List Activation → List (List ℕ) → Type 0
+  Callers stack now s f [] [] = (s ≡ S.c.sp) × (f ≡ S.root) × (now ≡ bit S.c.sr 3) × (word_in stack S.c.sp ≡ word_in S.ram S.c.sp)
+  Callers stack now s f (a ∷ rest) (opens ∷ outer) =
+      (first : Bool) × IsCaller stack now first s f a opens × Callers stack first (s + 2 + 2 * parameters S.code S.homes S.own S.deep f + S.own a.f) a.f rest outer
+  Callers stack now s f _ _ = ⊥
 
   -- registers from R r on hold these words
   abbrev pub AreIn : ℕ → List ℕ → (ℕ → ℕ) → Type 0
@@ -226,7 +225,7 @@ module _ (S : Setting) where
     pub outer : List (List ℕ)
     pub first : Bool
     pub placed : Placed a opens (bit v.sr 3) first v.sp v.regs v.stack
-    pub callers : Callers v.stack first (v.sp + S.own a.f) (parameters S.code S.homes S.own S.deep a.f) rest outer
+    pub callers : Callers v.stack first (v.sp + S.own a.f) a.f rest outer
     pub place : a.at < length (fn a).code
     pub pc : v.pc ≡ S.places a.f a.at
     pub reached : Reached S.code S.root (a ∷ rest) (opens ∷ outer) v.made v.answers
@@ -242,7 +241,7 @@ module _ (S : Setting) where
     pub zero : (w : ℕ) → is_among (fn a).params w ≡ false → a.values w ≡ 0
     pub passed : (w : ℕ) → is_among (fn a).params w ≡ true → (word_in v.stack (v.sp + 2 + 2 * pushed_behind (fn a).params w) ≡ a.values w) × (a.values w < 0x10000)
     pub pc : v.pc ≡ S.entries a.f
-    pub callers : Callers v.stack (bit v.sr 3) v.sp (parameters S.code S.homes S.own S.deep a.f) rest outer
+    pub callers : Callers v.stack (bit v.sr 3) v.sp a.f rest outer
     pub low : S.c.sp + S.deep a.f ≤ v.sp + S.deep S.root
     pub room : v.sp + 2 + 2 * parameters S.code S.homes S.own S.deep a.f ≤ S.c.sp + 2
     pub reached : Reached S.code S.root (a ∷ rest) ([] ∷ outer) v.made v.answers
@@ -264,7 +263,7 @@ module _ (S : Setting) where
     pub few : length taken ≤ 2
     pub below : AreBelow (fn a).values taken
     pub placed : Placed (record { f = a.f; at = a.at; values = before; frame = a.frame }) opens (bit v.sr 3) first (v.sp + 2 * words) v.regs v.stack
-    pub callers : Callers v.stack first (v.sp + 2 * words + S.own a.f) (parameters S.code S.homes S.own S.deep a.f) rest outer
+    pub callers : Callers v.stack first (v.sp + 2 * words + S.own a.f) a.f rest outer
     pub place : a.at < length (fn a).code
     pub stands : PartsStand S.image S.marks S.entries (labels a.f) v.pc (raised (2 * words) ++ takes S.code (S.homes a.f) (S.own a.f) 12 taken) (S.places a.f a.at)
     pub reached : Reached S.code S.root (a ∷ rest) (opens ∷ outer) v.made v.answers
