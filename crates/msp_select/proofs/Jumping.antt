@@ -19,6 +19,7 @@ use Rattle.msp430_cpu.specs.Exec.{further, jumped}
 use Rattle.msp430_cpu.specs.Operate.{differ, is_taken, operate}
 use Rattle.mid_code.specs.declared.instr.Mid.{Mid}
 use Rattle.mid_code.specs.declared.instr.Mid.TheVariants.{Carry, Jump, Branch, Label}
+use Rattle.mid_code.specs.declared.instr.Op.{Op}
 use Rattle.mid_code.specs.declared.instr.Op.TheVariants as op
 use Rattle.mid_code.specs.declared.instr.Test.{Test}
 use Rattle.mid_code.specs.declared.instr.Test.TheVariants as test
@@ -32,13 +33,13 @@ use Rattle.open_law.proofs.View.{View}
 use Rattle.open_law.proofs.Quiet.{put_home, passed}
 use Rattle.open_law.proofs.Alu.{with_result}
 use Rattle.open_law.proofs.Chain.{Takes, move, operation, jump as jump_rule, go_to}
-use Rattle.msp_select.specs.Select.{Part, is_turned, moving, scratch, taken_by, two}
+use Rattle.msp_select.specs.Select.{Part, is_turned, moving, parts_of, scratch, taken_by, two}
 use Rattle.msp_select.proofs.Compare.{cmp_tells, compared_sr}
 use Rattle.msp_select.proofs.Flags.{Tame, carry_of_add, tame, tame_operator}
 use Rattle.msp_select.proofs.Reached.{goes}
 use Rattle.msp_select.proofs.Relation.{Setting, Here, Told, ToldAt, flagged, fn, labels, settled}
 use Rattle.msp_select.proofs.Kept.{Premises, ready}
-use Rattle.msp_select.proofs.Doing.{After, Piece, Stand, behind_two, end, fetch, finish, has_here, held, home, in_scratch, low_registers, marked, names, one, onward_place, opened, operated, operation_on, placed, silent, stands, stayed, steady, stepped}
+use Rattle.msp_select.proofs.Doing.{After, Piece, Stand, behind_two, end, fetch, finish, has_here, held, home, in_scratch, low_registers, marked, names, one, onward_place, opened, operated, operation_on, placed, silent, stands, stayed, steady, stepped, home_here, wrote}
 
 module _ (S : Setting) (left : List Activation → ℕ) (most : ℕ) (P : Premises S left most) (a : Activation) (rest : List Activation) (v : View) (h : Here S a rest v) (m0 : ℕ) (made0 : List Action) (few : 2 * left (a ∷ rest) ≤ m0) (since : v.made ≡ made0) where
   -- C to R12: MOV #0, R12; ADDC #0, R12
@@ -153,6 +154,22 @@ module _ (S : Setting) (left : List Activation → ℕ) (most : ℕ) (P : Premis
       let gives = borrowed c (nat_le 0x10000 (a.values p + (0x10000 - 1 - a.values q) + 1)) (is ∙ carry) (nat_lt (a.values p) (a.values q)) (borrows (a.values p) (a.values q) word_p.2 word_q.2) in
       one S left most P a rest v h m0 made0 few since 1 u z t3 refl (operation S.image S.data_end S.marks S.c.sp u op2.Xor (Made 1) scratch 1 c refl (xor_lt 16 c 1 small (omega arith)) (ready S left most P u t3) at3 (refl, omega arith) (in_scratch S left most P a rest v h m0 made0 few since v.sp u.regs v.stack c small refl))
       (finish S left most P a rest v h m0 made0 few since x n i e refl refl next lt (carry_small (nat_lt (a.values p) (a.values q))) z.pc z.sr z.gate z.regs st4 t4 (again.gie ∙ calm3.gie) (λ r lo. low_registers S left most P a rest v h m0 made0 few since u.regs _ r lo ∙ low3 r lo) gives)))
+
+  -- a bitwise operation carries nothing
+  pub carry_none : (o : Op) (x p q : ℕ) (e : instruction S.code a ≡ Some (Carry o x p q)) → parts_of S.code (S.homes a.f) (S.own a.f) (Carry o x p q) ≡ moving (literal 0) (home S left most P a rest v h m0 made0 few since x) ∷ [] → words.carry o (a.values p) (a.values q) ≡ 0 → Piece S left most P a rest v h m0 made0 few since 1 v
+  carry_none o x p q e form none =
+      let i = Carry o x p q in
+      let k = home S left most P a rest v h m0 made0 few since x in
+      let lt = (names S left most P a rest v h i e).written 0 0 (omega arith) in
+      let st = subst (λ ps. Stand S a.f v.pc ps (end S left most P a rest v h m0 made0 few since)) form (stands S left most P a rest v h i e) in
+      let at = marked S a.f v.pc (end S left most P a rest v h m0 made0 few since) [] (Two op2.Mov false (operand_of (literal 0)) (at_home k)) [] st in
+      let pc = behind_two S a.f v.pc (end S left most P a rest v h m0 made0 few since) [] op2.Mov false (operand_of (literal 0)) (at_home k) [] st in
+      let next : step S.code (a ∷ rest) ≡ Goes (write a x 0 ∷ rest) = stepped S left most P a rest v h m0 made0 few since i e ∙ ap (λ n. Goes (write a x n ∷ rest)) none in
+      let w = passed (put_home v k 0) (2 + 0 + further (at_home k)) in
+      one S left most P a rest v h m0 made0 few since 0 v w h.told refl (move S.image S.data_end S.marks S.c.sp v (Made 0) k 0 (ready S left most P v h.told) at (refl, omega arith) (home_here S left most P a rest v h m0 made0 few since x lt))
+      (silent S left most P a rest v h m0 made0 few since (write a x 0) rest w next
+      (wrote S left most P a rest v h x 0 w.pc v.sr (bit v.sr 3) w.regs v.made v.answers lt (omega arith) (onward_place S left most P a rest v h i e refl) pc (λ r lo. refl) refl
+      (goes S.code S.root (a ∷ rest) (h.opens ∷ h.outer) v.made v.answers h.reached (write a x 0 ∷ rest) (h.opens ∷ h.outer) next (opened S left most P a rest v h m0 made0 few since i e refl)) refl (settled S h.told)))
 
   -- ---- jumps
 

@@ -10,3 +10,6 @@ pub mod Jumping
 pub mod Atomic
 pub mod Calling
 pub mod Returning
+pub mod Resuming
+pub mod Entering
+pub mod Selected

@@ -1,5 +1,5 @@
 -- What selected code relies on: where it stands, where values are kept, how deep the stack goes, and when actions come (own).
-use Rattle.std.specs.Prelude.{◌≡◌, ◌≢◌, ◌⊎◌, ℕ, ◌+◌, ◌*◌, ◌^◌, ◌<◌, ◌≤◌, Bool, true, false, List, [], ◌∷◌, ◌++◌, length, Option, Some, None, slice_get}
+use Rattle.std.specs.Prelude.{◌≡◌, ◌≢◌, ◌⊎◌, ℕ, ◌+◌, ◌*◌, ◌/◌, ◌^◌, ◌<◌, ◌≤◌, Bool, true, false, List, [], ◌∷◌, ◌++◌, length, Option, Some, None, slice_get}
 use Rattle.std.specs.List.{All}
 use Rattle.nm_base.specs.declared.action.Action.{Action}
 use Rattle.nm_base.specs.Behaviour.{Trace, play}
@@ -112,3 +112,30 @@ IsSelectable _ = Unit {0}
 -- what the function does when it is called first
 abbrev pub body_of : MidCode → ℕ → List ℕ → ℕ → Trace
 body_of code root answers n = play (steps code n (started code root)) answers
+
+-- all of it: the function `root` takes nothing and gives so many values, and no piece of code has more than `long` instructions
+pub record IsSelected (code : MidCode) (homes : ℕ → ℕ → Home) (own deep : ℕ → ℕ) (left : List Activation → ℕ) (most long root gives data_end : ℕ) (image : ℕ → ℕ) (marks : ℕ → List Action) (entries : ℕ → ℕ) (places : ℕ → ℕ → ℕ) : Type 0 where
+  pub form : IsMidCode code
+  pub keeps : KeepsForm code
+  pub selectable : (f at : ℕ) (i : Mid) → slice_get (fn_of code f).code at ≡ Some i → IsSelectable i
+  pub framed : (f : ℕ) → f < length code.fns → IsFramed code homes own deep f
+  pub depths : (f : ℕ) → f < length code.fns → IsDeep code homes own deep f
+  pub standing : IsStanding code homes own deep image marks entries places
+  pub objects : TouchesObjects code root data_end
+  pub paced : IsPaced code root left most
+  pub is : root < length code.fns
+  pub params : (fn_of code root).params ≡ []
+  pub given : gives ≡ form.gives root
+  pub low_end : 0x1100 ≤ data_end
+  -- an entry has three instructions for each word and one more; a call one for each value passed and one more
+  pub entry : (f : ℕ) → f < length code.fns → 3 * (own f / 2) + 1 < long
+  pub call : (f : ℕ) → f < length code.fns → count_pushed (fn_of code f).params + 1 < long
+  pub least : 5 < long
+
+-- The code of a function that takes nothing does what the open machine does, called with the gate open or with it closed, and
+-- gives its values in R12 and R13
+abbrev pub SelectedCodeIsOpen : Type 0
+SelectedCodeIsOpen =
+    (code : MidCode) (homes : ℕ → ℕ → Home) (own deep : ℕ → ℕ) (left : List Activation → ℕ) (most long root gives data_end : ℕ) (image : ℕ → ℕ) (marks : ℕ → List Action) (entries : ℕ → ℕ) (places : ℕ → ℕ → ℕ) →
+    IsSelected code homes own deep left most long root gives data_end image marks entries places →
+    IsOpenFunction image data_end marks gives (body_of code root) (entries root) (deep root) (long * (2 * most + 3))

@@ -1,9 +1,8 @@
 //! Instruction selection: the code of functions of the middle code.
 #![tactic(auto)]
 
-ghost use Rattle.msp_select.specs.Rows.{WorkedRows};
+mod law;
+mod rows;
 
-/// What instructions of the middle code become, word by word as gone through by hand.
-pub fn worked_rows()
-    ensures { WorkedRows }
-{}
+pub use law::selected_code_is_open;
+pub use rows::worked_rows;

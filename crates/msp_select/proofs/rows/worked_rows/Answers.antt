@@ -1,5 +1,5 @@
 use Rattle.std.proofs.Common.{refl}
-use Rattle.msp_select.proofs.worked_rows.Goals as goal
+use Rattle.msp_select.proofs.rows.worked_rows.Goals as goal
 
 pub returns : goal.returns
 returns c = record { own = refl; first = refl; second = refl; parameter = refl; entry = refl; set = refl; one = refl; added = refl; branch = refl; call = refl; return = refl }
