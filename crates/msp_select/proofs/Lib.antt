@@ -1,3 +1,4 @@
+pub mod Frames
 pub mod Nest
 pub mod Reached
 pub mod Relation

@@ -16,7 +16,7 @@ use Rattle.mid_code.specs.Machine.{Activation, Next, Goes, fn_of, instruction, p
 use Rattle.mid_code.specs.Reached.{KeepsForm, bytes, innermost_instruction, state_at}
 use Rattle.open_law.specs.Homes.{Home, InRegister, InFrame, Apart, place_in}
 use Rattle.open_law.specs.Body.{IsOpenFunction}
-use Rattle.msp_select.specs.Frames.{count_pushed, is_among, pushed_behind}
+use Rattle.msp_select.specs.Frames.{count_pushed, frame_home, is_among, own_bytes, pushed_behind}
 use Rattle.msp_select.specs.Select.{Part, entry_of, parts_of}
 
 -- ---- where code stands
@@ -139,3 +139,7 @@ SelectedCodeIsOpen =
     (code : MidCode) (homes : ℕ → ℕ → Home) (own deep : ℕ → ℕ) (left : List Activation → ℕ) (most long root gives data_end : ℕ) (image : ℕ → ℕ) (marks : ℕ → List Action) (entries : ℕ → ℕ) (places : ℕ → ℕ → ℕ) →
     IsSelected code homes own deep left most long root gives data_end image marks entries places →
     IsOpenFunction image data_end marks gives (body_of code root) (entries root) (deep root) (long * (2 * most + 3))
+
+-- the homes on the stack that selection chooses are such homes
+abbrev pub FramesFit : Type 0
+FramesFit = (code : MidCode) (deep : ℕ → ℕ) (f : ℕ) → IsFramed code (λ g. frame_home (fn_of code g)) (λ g. own_bytes (fn_of code g)) deep f

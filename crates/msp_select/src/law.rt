@@ -1,9 +1,15 @@
 //! Selected code meets the open law.
 
-ghost use Rattle.msp_select.specs.Sound.{SelectedCodeIsOpen};
+ghost use Rattle.msp_select.specs.Sound.{FramesFit, SelectedCodeIsOpen};
 
 /// Where its code stands in an image, a function without parameters does what the open machine does, whatever happens between
 /// its instructions.
 pub fn selected_code_is_open()
     ensures { SelectedCodeIsOpen }
+{}
+
+/// The homes on the stack that selection chooses meet what its law asks of homes: they lie in the frame, behind its bytes, and
+/// apart from each other and from the return address.
+pub fn frames_fit()
+    ensures { FramesFit }
 {}
