@@ -14,3 +14,4 @@ pub mod Returning
 pub mod Resuming
 pub mod Entering
 pub mod Selected
+pub mod AtomicRow

@@ -1,4 +1,5 @@
 pub mod Frames
 pub mod Select
 pub mod Sound
+pub mod AtomicRow
 pub mod Rows

@@ -1,5 +1,6 @@
 //! Selected code meets the open law.
 
+ghost use Rattle.msp_select.specs.AtomicRow.{AtomicRowIsOpen};
 ghost use Rattle.msp_select.specs.Sound.{FramesFit, SelectedCodeIsOpen};
 
 /// Where its code stands in an image, a function without parameters does what the open machine does, whatever happens between
@@ -12,4 +13,9 @@ pub fn selected_code_is_open()
 /// apart from each other and from the return address.
 pub fn frames_fit()
     ensures { FramesFit }
+{}
+
+/// The law's premises can be met: a function that writes to a port in an atomic statement, with the words of its code.
+pub fn atomic_row_is_open()
+    ensures { AtomicRowIsOpen }
 {}
