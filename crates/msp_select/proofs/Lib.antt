@@ -15,3 +15,4 @@ pub mod Resuming
 pub mod Entering
 pub mod Selected
 pub mod AtomicRow
+pub mod Bounds

@@ -1,7 +1,8 @@
 -- Where a function keeps its values while all of them lie on the stack (own). Up from SP lie the bytes of its frame and its other
 -- values; then its return address; then its parameters, as its caller pushed them.
-use Rattle.std.specs.Prelude.{ℕ, zero, suc, ◌+◌, ◌*◌, ◌/◌, ◌==◌, Bool, true, false, List, [], ◌∷◌, if◌then◌else◌}
+use Rattle.std.specs.Prelude.{ℕ, zero, suc, ◌+◌, ◌*◌, ◌/◌, ◌==◌, ◌≤◌, Bool, true, false, List, [], ◌∷◌, if◌then◌else◌}
 use Rattle.mid_code.specs.declared.code.MidFn.{MidFn}
+use Rattle.mid_code.specs.Form.{AreBelow}
 use Rattle.open_law.specs.Homes.{Home, InFrame}
 
 -- the next even number
@@ -49,3 +50,8 @@ frame_place fn v =
 
 abbrev pub frame_home : MidFn → ℕ → Home
 frame_home fn v = InFrame (frame_place fn v)
+
+-- What a function holds on the stack: its own bytes, and what was pushed for it. It is no more than its frame and two bytes for each
+-- value
+abbrev pub FramesAreSmall : Type 0
+FramesAreSmall = (fn : MidFn) → AreBelow fn.values fn.params → own_bytes fn + parameter_bytes fn ≤ rounded (fn.frame + 2 * fn.values)

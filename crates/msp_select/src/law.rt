@@ -1,6 +1,7 @@
 //! Selected code meets the open law.
 
 ghost use Rattle.msp_select.specs.AtomicRow.{AtomicRowIsOpen};
+ghost use Rattle.msp_select.specs.Frames.{FramesAreSmall};
 ghost use Rattle.msp_select.specs.Sound.{FramesFit, SelectedCodeIsOpen};
 
 /// Where its code stands in an image, a function without parameters does what the open machine does, whatever happens between
@@ -18,4 +19,10 @@ pub fn frames_fit()
 /// The law's premises can be met: a function that writes to a port in an atomic statement, with the words of its code.
 pub fn atomic_row_is_open()
     ensures { AtomicRowIsOpen }
+{}
+
+/// What a function holds on the stack, with what its callers push for it, is at most its frame and two bytes for each value,
+/// rounded up to an even number.
+pub fn frames_are_small()
+    ensures { FramesAreSmall }
 {}
