@@ -16,3 +16,4 @@ pub mod Entering
 pub mod Selected
 pub mod AtomicRow
 pub mod Bounds
+pub mod Laid

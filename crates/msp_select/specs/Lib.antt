@@ -1,5 +1,6 @@
 pub mod Frames
 pub mod Select
 pub mod Sound
+pub mod Laid
 pub mod AtomicRow
 pub mod Rows

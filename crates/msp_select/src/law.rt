@@ -2,6 +2,7 @@
 
 ghost use Rattle.msp_select.specs.AtomicRow.{AtomicRowIsOpen};
 ghost use Rattle.msp_select.specs.Frames.{FramesAreSmall};
+ghost use Rattle.msp_select.specs.Laid.{LaidCodeStands};
 ghost use Rattle.msp_select.specs.Sound.{FramesFit, SelectedCodeIsOpen};
 
 /// Where its code stands in an image, a function without parameters does what the open machine does, whatever happens between
@@ -25,4 +26,9 @@ pub fn atomic_row_is_open()
 /// rounded up to an even number.
 pub fn frames_are_small()
     ensures { FramesAreSmall }
+{}
+
+/// Where functions with these items are laid out, and the table of silent actions is theirs, the code stands as the law asks.
+pub fn laid_code_stands()
+    ensures { LaidCodeStands }
 {}
