@@ -1,6 +1,5 @@
 -- Atomic statements.
-use Rattle.std.proofs.Common.{None, ◌≡◌, ◌≢◌, ◌⊎◌, ⊎_elim, ℕ, zero, suc, ◌+◌, ◌-◌, ◌*◌, ◌/◌, ◌%◌, ◌<◌, ◌≤◌, ◌==◌, Bool, true, false, cond, nat_lt, List, [], ◌∷◌, ◌++◌, length, Some, All, refl, sym, ap, ◌∙◌, subst, arith, bit_and}
-use mathlib.Core.Logic.{inl, inr}
+use Rattle.std.proofs.Common.{◌≡◌, ⊎_elim, ℕ, suc, ◌+◌, ◌-◌, ◌*◌, ◌/◌, ◌%◌, ◌<◌, ◌≤◌, Bool, true, false, nat_lt, List, [], ◌∷◌, ◌++◌, length, Some, All, refl, sym, ap, ◌∙◌, subst, arith, bit_and}
 use Rattle.std.specs.Prelude.{drop}
 use Rattle.std.proofs.lemmas.Bool.Decides.{nat_tests}
 use Rattle.std.proofs.lemmas.List.Elements.{All-head, All-tail}
@@ -13,9 +12,8 @@ use Rattle.msp_isa.specs.declared.instr.Operand.TheVariants.{Reg, Indexed, Const
 use Rattle.msp_isa.specs.Stands.{word_in}
 use Rattle.msp430_cpu.specs.Cpu.{changed_at, even}
 use Rattle.msp430_cpu.specs.Memory.{with_word_at}
-use Rattle.mid_code.specs.declared.instr.Mid.{Mid}
 use Rattle.mid_code.specs.declared.instr.Mid.TheVariants.{Begin, End}
-use Rattle.mid_code.specs.Machine.{Activation, Acts, at_place, fn_of, instruction, onward, step}
+use Rattle.mid_code.specs.Machine.{Activation, Acts, instruction, onward, step}
 use Rattle.mid_code.specs.Reached.{AreApart, LastIs, opens_behind}
 use Rattle.open_law.specs.Homes.{InFrame}
 use Rattle.open_law.specs.Open.{AreMarks}
@@ -24,12 +22,12 @@ use Rattle.open_law.proofs.Quiet.{put_home, passed}
 use Rattle.open_law.proofs.Homes.{closed_gie, closed_cpuoff, closed_small, word_same, word_other, word_above}
 use Rattle.open_law.proofs.Chain.{step as chain_step, save, close, nop, restore}
 use Rattle.open_law.proofs.Law.{is_inside}
-use Rattle.msp_select.specs.Select.{moved, nop as nop_part, plain}
+use Rattle.msp_select.specs.Select.{nop as nop_part, plain}
 use Rattle.msp_select.proofs.Nest.{nested, is_nested, nested_on, IsEven, inside_is, even_begin, even_end}
 use Rattle.msp_select.proofs.Bytes.{byte_other}
-use Rattle.msp_select.proofs.Reached.{Reached, acts, told as told_of, next_act}
-use Rattle.msp_select.proofs.Relation.{Setting, AllApart, Callers, GoodOne, Here, IsFree, IsSlot, Placed, Saved, Told, ToldAt, act, clash, fn, good, obeys, settled, total, Sound}
-use Rattle.msp_select.proofs.Kept.{Premises, SameFrom, callers_poked, contains, home_behind, ready, word_on, words_of}
+use Rattle.msp_select.proofs.Reached.{acts, told as told_of, next_act}
+use Rattle.msp_select.proofs.Relation.{Setting, AllApart, Callers, GoodOne, Here, IsSlot, Placed, Saved, Told, clash, fn, settled, total, Sound}
+use Rattle.msp_select.proofs.Kept.{Premises, SameFrom, callers_poked, contains, home_behind, ready, words_of}
 use Rattle.msp_select.proofs.Doing.{After, NextOne, Piece, acted, behind_two, end, marked, may, one, one_act, onward_place, placed, stands, stepped}
 
 one_more : (a b : ℕ) → suc (a + b) ≡ suc a + b

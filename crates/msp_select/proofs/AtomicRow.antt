@@ -1,7 +1,7 @@
 -- The function of the worked row meets all that selection relies on.
-use Rattle.std.proofs.Common.{◌≡◌, ◌≢◌, ◌⊎◌, ℕ, zero, suc, ◌+◌, ◌-◌, ◌*◌, ◌/◌, ◌%◌, ◌^◌, ◌<◌, ◌≤◌, ◌==◌, Bool, true, false, cond, List, [], ◌∷◌, ◌++◌, length, Option, Some, None, All, refl, sym, ap, ◌∙◌, subst, arith}
+use Rattle.std.proofs.Common.{◌≡◌, ◌≢◌, ◌⊎◌, ℕ, zero, suc, ◌+◌, ◌*◌, ◌/◌, ◌%◌, ◌^◌, ◌<◌, ◌≤◌, false, List, [], ◌∷◌, ◌++◌, length, Some, All, refl, sym, ap, subst, arith}
 use mathlib.Core.Logic.{inl, inr}
-use Rattle.std.specs.Prelude.{slice_get, slice_index, slice_index_or}
+use Rattle.std.specs.Prelude.{slice_get, slice_index_or}
 use Rattle.std.proofs.lemmas.Bool.{ne_eqb}
 use Rattle.msp430_cpu.specs.Cpu.{even}
 use Rattle.msp_isa.specs.declared.instr.Instr.{Instr}
@@ -23,8 +23,8 @@ use Rattle.mid_code.specs.Machine.{Activation, Goes, fn_of, moved, place_of, ste
 use Rattle.mid_code.specs.Reached.{AllMayGoOn, KeepsForm, innermost_instruction, opens_at, state_at}
 use Rattle.msp_select.specs.AtomicRow.{AtomicRowIsOpen, code, fn, image, left, marks, places}
 use Rattle.msp_select.specs.Frames.{count_pushed, frame_home, own_bytes}
-use Rattle.msp_select.specs.Select.{Part, entry_of, parts_of}
-use Rattle.msp_select.specs.Sound.{IsAnswers, IsDeep, IsDeeper, IsFramed, IsOfObjects, IsPaced, IsSelectable, IsStanding, PartStands, PartsStand, TouchesObjects}
+use Rattle.msp_select.specs.Select.{entry_of, parts_of}
+use Rattle.msp_select.specs.Sound.{IsDeep, IsDeeper, IsOfObjects, IsSelectable, PartStands, PartsStand}
 use Rattle.msp_select.proofs.Frames.{frames_fit}
 use Rattle.msp_select.proofs.Selected.{selected}
 

@@ -1,11 +1,11 @@
 -- A frame holds no more than its bytes and its values.
-use Rattle.std.proofs.Common.{◌≡◌, ◌≢◌, ◌⊎◌, ℕ, zero, suc, ◌+◌, ◌*◌, ◌/◌, ◌<◌, ◌≤◌, ◌==◌, Bool, true, false, cond, List, [], ◌∷◌, refl, sym, ap, ◌∙◌, arith}
+use Rattle.std.proofs.Common.{◌≡◌, ◌≢◌, ◌⊎◌, ℕ, zero, suc, ◌+◌, ◌<◌, ◌≤◌, ◌==◌, Bool, true, false, cond, List, [], ◌∷◌, refl, sym, ap, ◌∙◌, arith}
 use mathlib.Core.Logic.{inl, inr}
 use Rattle.std.proofs.lemmas.Bool.{eq-eqb}
 use Rattle.std.proofs.lemmas.Bool.Decides.{eqb_tells}
 use Rattle.std.proofs.lemmas.List.Elements.{All-head, All-tail}
 use Rattle.mid_code.specs.Form.{AreBelow}
-use Rattle.msp_select.specs.Frames.{FramesAreSmall, count_pushed, is_among, others_below, own_bytes, parameter_bytes, rounded}
+use Rattle.msp_select.specs.Frames.{FramesAreSmall, count_pushed, is_among, others_below}
 
 one_less : (first among : Bool) → cond (cond first true among) 0 1 ≤ cond among 0 1
 one_less true true = omega arith

@@ -1,5 +1,5 @@
 -- Calls: values are pushed, and the function called begins.
-use Rattle.std.proofs.Common.{None, ◌≡◌, ◌≢◌, ◌⊎◌, ⊎_elim, ℕ, zero, suc, ◌+◌, ◌-◌, ◌*◌, ◌/◌, ◌%◌, ◌<◌, ◌≤◌, ◌==◌, Bool, true, false, cond, List, [], ◌∷◌, ◌++◌, length, map, Some, Option, All, refl, sym, ap, ◌∙◌, subst, arith}
+use Rattle.std.proofs.Common.{◌≡◌, ◌≢◌, ◌⊎◌, ℕ, suc, ◌+◌, ◌-◌, ◌*◌, ◌<◌, ◌≤◌, ◌==◌, Bool, true, false, cond, List, [], ◌∷◌, ◌++◌, length, map, Some, All, refl, sym, ap, ◌∙◌, subst, arith}
 use mathlib.Core.Logic.{inl, inr}
 use Rattle.std.proofs.lemmas.Bool.{eq-eqb, ne_eqb}
 use Rattle.std.proofs.lemmas.Bool.Decides.{eqb_tells}
@@ -14,11 +14,10 @@ use Rattle.msp_isa.specs.Stands.{word_in}
 use Rattle.msp430_cpu.specs.Cpu.{even}
 use Rattle.msp430_cpu.specs.Exec.{further}
 use Rattle.msp430_cpu.specs.Memory.{with_word_at}
-use Rattle.mid_code.specs.declared.instr.Mid.{Mid}
 use Rattle.mid_code.specs.declared.instr.Mid.TheVariants.{Call}
 use Rattle.mid_code.specs.Machine.{Activation, Goes, entry, fn_of, instruction, put, put_all, step}
 use Rattle.mid_code.specs.Reached.{opens_behind}
-use Rattle.open_law.specs.Homes.{Home, InRegister, InFrame, Of, at_home, operand_of, place_in}
+use Rattle.open_law.specs.Homes.{Home, InRegister, InFrame, Of, at_home}
 use Rattle.open_law.specs.Stands.{IsMarked}
 use Rattle.open_law.proofs.View.{View}
 use Rattle.open_law.proofs.Quiet.{HasAt, held_at, passed}
@@ -27,11 +26,11 @@ use Rattle.open_law.proofs.Homes.{word_above, word_same}
 use Rattle.open_law.proofs.Chain.{push, call}
 use Rattle.msp_select.specs.Frames.{count_pushed, is_among, pushed, pushed_behind}
 use Rattle.msp_select.specs.Select.{Part, deeper, pushes, raised, takes}
-use Rattle.msp_select.specs.Sound.{IsDeeper, parameters, PartsStand}
+use Rattle.msp_select.specs.Sound.{IsDeeper, PartsStand}
 use Rattle.msp_select.proofs.Reached.{goes}
-use Rattle.msp_select.proofs.Relation.{Setting, Callers, Entering, Here, IsCaller, Placed, Told, ToldAt, fn, labels, moved, settled}
+use Rattle.msp_select.proofs.Relation.{Setting, Callers, Here, IsCaller, Placed, ToldAt, fn, labels, moved, settled}
 use Rattle.msp_select.proofs.Kept.{Premises, SameFrom, callers_on, placed_on, ready, word_on, words_of}
-use Rattle.msp_select.proofs.Doing.{Piece, Stand, begun, behind_one, end, few_left, fits, marked, names, one, onward_place, placed, stands, stepped}
+use Rattle.msp_select.proofs.Doing.{Piece, Stand, begun, behind_one, end, few_left, fits, marked, names, one, placed, stands, stepped}
 
 abbrev pub longer_by : List ℕ → ℕ → ℕ
 longer_by [] n = n
@@ -222,10 +221,13 @@ module _ (S : Setting) (left : List Activation → ℕ) (most : ℕ) (P : Premis
       let count = few_pushed params ins in
       let len = longer_few (pushed params ins) 0 in
       let st = stands S left most P a rest v h (Call g ins outs) e in
-      let more = raised (2 * words) ++ takes S.code (S.homes a.f) (S.own a.f) 12 outs in
-      (n, omega (arith, count, len), subst (λ m. Piece S left most P a rest v h m0 made0 few since m v) (longer_one (pushed params ins))
-      (pushing params ins 0 1 (record { silent = []; item = item.CallFn g } ∷ more) v.pc v.sp base v.gate v.stack fit.1 (names S left most P a rest v h (Call g ins outs) e).read (omega arith) (λ b le. refl) (omega (arith, lo, depth, room)) (omega (arith, lo, depth)) (omega (arith, es)) st h.told
-      (λ pc gate stack same there' st1 t. calls g ins outs e base pc gate stack (omega (arith, lo, depth, room)) same there' st1 t)))
+      let more = raised (2 * words) ++ takes S.code (S.homes a.f) (S.own a.f) 12 outs in (
+        n,
+        omega (arith, count, len),
+        subst (λ m. Piece S left most P a rest v h m0 made0 few since m v) (longer_one (pushed params ins))
+            (pushing params ins 0 1 (record { silent = []; item = item.CallFn g } ∷ more) v.pc v.sp base v.gate v.stack fit.1 (names S left most P a rest v h (Call g ins outs) e).read (omega arith) (λ b le. refl) (omega (arith, lo, depth, room)) (omega (arith, lo, depth)) (omega (arith, es)) st h.told
+            (λ pc gate stack same there' st1 t. calls g ins outs e base pc gate stack (omega (arith, lo, depth, room)) same there' st1 t)),
+      )
     where
       longer_one : (l : List ℕ) → longer_by l 1 ≡ suc (longer_by l 0)
       longer_one [] = refl
@@ -273,9 +275,11 @@ module _ (S : Setting) (left : List Activation → ℕ) (most : ℕ) (P : Premis
             zero = λ y none. put_all_apart (λ i. 0) (fn_of S.code g).params (map a.values ins) y none;
             passed = λ y is.
                 let r = there' y is in
-                let up : base - 2 + 2 ≡ base = omega (arith, deep') in
-                (ap (λ s. word_in stack1 (s + 2 * pushed_behind (fn_of S.code g).params y)) up
-                ∙ word_on stack stack1 (base + 2 * pushed_behind (fn_of S.code g).params y) (over (base + 2 * pushed_behind (fn_of S.code g).params y) (omega arith)) (over (base + 2 * pushed_behind (fn_of S.code g).params y + 1) (omega arith)) ∙ r.0, r.1);
+                let up : base - 2 + 2 ≡ base = omega (arith, deep') in (
+                  ap (λ s. word_in stack1 (s + 2 * pushed_behind (fn_of S.code g).params y)) up
+                      ∙ word_on stack stack1 (base + 2 * pushed_behind (fn_of S.code g).params y) (over (base + 2 * pushed_behind (fn_of S.code g).params y) (omega arith)) (over (base + 2 * pushed_behind (fn_of S.code g).params y + 1) (omega arith)) ∙ r.0,
+                  r.1,
+                );
             pc = refl;
             callers = (h.first, caller, subst (λ s. Callers S stack1 h.first (s + S.own a.f) a.f rest h.outer) (sym at_a) below);
             low = omega (arith, split, lo, depth);

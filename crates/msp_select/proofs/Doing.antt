@@ -1,7 +1,6 @@
 -- The rules by which the code of an instruction of the middle code is a chain.
-use Rattle.std.proofs.Common.{None, ◌≡◌, ◌≢◌, ◌⊎◌, ⊎_elim, ℕ, zero, suc, ◌+◌, ◌*◌, ◌/◌, ◌%◌, ◌^◌, ◌<◌, ◌≤◌, ◌==◌, Bool, true, false, cond, List, [], ◌∷◌, ◌++◌, length, length-append, Some, refl, sym, ap, ◌∙◌, subst, arith}
+use Rattle.std.proofs.Common.{◌≡◌, ◌≢◌, ◌⊎◌, ⊎_elim, ℕ, suc, ◌+◌, ◌*◌, ◌%◌, ◌<◌, ◌≤◌, ◌==◌, Bool, true, false, cond, List, [], ◌∷◌, ◌++◌, length, length-append, Some, refl, sym, ap, ◌∙◌, subst, arith}
 use mathlib.Core.Logic.{inl, inr}
-use Rattle.std.specs.Prelude.{slice_get}
 use Rattle.std.proofs.lemmas.Bool.Decides.{nat_tests, eqb_tells}
 use Rattle.nm_base.specs.Lists.{bit, IsPrefixOf, number_of}
 use Rattle.nm_base.specs.declared.action.Action.{Action}
@@ -19,12 +18,12 @@ use Rattle.msp_isa.specs.Encode.{encoded, further_word, before_words}
 use Rattle.msp430_cpu.specs.Cpu.{changed_at, even}
 use Rattle.msp430_cpu.specs.Exec.{further}
 use Rattle.mid_code.specs.declared.instr.Mid.{Mid}
-use Rattle.mid_code.specs.declared.instr.Mid.TheVariants.{Set, Move, Bin, Carry, Load, Store, Peek, Poke, In, Out, Tick, Fault}
+use Rattle.mid_code.specs.declared.instr.Mid.TheVariants.{Set, Move, Bin, Load, Store, Peek, Poke, In, Out, Tick, Fault}
 use Rattle.mid_code.specs.declared.instr.Op.{Op}
 use Rattle.mid_code.specs.Words as words
 use Rattle.msp430_cpu.specs.Operate.{operate}
-use Rattle.mid_code.specs.Form.{IsMidCode, NamesOwn, FitsProgram, IsMidFn, goes_elsewhere}
-use Rattle.mid_code.specs.Machine.{Activation, Goes, Acts, Wants, Stops, peeked, poked, at_place, fn_of, instruction, onward, perform, put, started, step, write}
+use Rattle.mid_code.specs.Form.{NamesOwn, FitsProgram, goes_elsewhere}
+use Rattle.mid_code.specs.Machine.{Activation, Goes, Acts, Wants, Stops, peeked, poked, at_place, instruction, onward, perform, step, write}
 use Rattle.mid_code.specs.Reached.{IsInFrame, IsPort as IsMidPort, MayGoOn, AllMayGoOn, innermost_instruction, opens_at, opens_behind}
 use Rattle.mid_code.proofs.Calls.{behind, own_end, own_form}
 use Rattle.open_law.specs.Homes.{Home, InRegister, InFrame, IsPort, Of, StackPointer, at_home, operand_of, literal}
@@ -41,11 +40,11 @@ use Rattle.open_law.proofs.Law.{NextOf, Post}
 use Rattle.msp_select.specs.Select.{Part, moved, moving, operator, parts_of, scratch, two}
 use Rattle.msp_select.proofs.Bytes.{byte_other, byte_poked, word_poked}
 use Rattle.msp_select.proofs.Flags.{Tame, tame, has_literal, operator_is, operator_reads, tame_operator, word_of}
-use Rattle.msp_select.specs.Sound.{IsFramed, IsOfObjects, PartStands, PartsStand}
+use Rattle.msp_select.specs.Sound.{IsFramed, IsOfObjects, PartsStand}
 use Rattle.msp_select.proofs.Nest.{nested, nested_on}
 use Rattle.msp_select.proofs.Reached.{Reached, goes, acts, wants, told as told_of, next_act, next_want, faulted}
-use Rattle.msp_select.proofs.Relation.{Setting, Entering, GoodOne, Here, IsFree, IsSlot, Placed, Resuming, Told, ToldAt, act, did, flagged, fn, good, labels, obeys, settled, total}
-use Rattle.msp_select.proofs.Kept.{Premises, all_get, there, placed_wrote, placed_stayed, callers_wrote, has, home_of, placed_poked, callers_poked, ready, word_on, words_of, SameFrom}
+use Rattle.msp_select.proofs.Relation.{Setting, Entering, GoodOne, Here, IsFree, IsSlot, Placed, Resuming, Told, ToldAt, act, did, flagged, fn, good, labels, obeys, settled}
+use Rattle.msp_select.proofs.Kept.{Premises, all_get, placed_wrote, placed_stayed, callers_wrote, has, home_of, placed_poked, callers_poked, ready, word_on, SameFrom}
 
 further_bytes : (o : Operand) (ws : List ℕ) → 2 * length (before_words (further_word o) ws) ≡ further o + 2 * length ws
 further_bytes (Reg r) ws = omega arith
@@ -364,11 +363,14 @@ module _ (S : Setting) (left : List Activation → ℕ) (most : ℕ) (P : Premis
             let at = marked S a.f v.pc end [] (Two (operator o) false (at_home (home q)) (at_home k)) [] st in
             let pc = behind_two S a.f v.pc end [] (operator o) false (at_home (home q)) (at_home k) [] st in
             let w = operated v k (2 + further (at_home (home q)) + further (at_home k)) n sr in
-            let first = subst (λ y. HasAt (S.c.sp + 2) v.sp v.regs v.stack (Of (home y)) (a.values p)) (sym t.1) (placed.values p lp) in
-            (0, omega arith, one 0 v w h.told refl (operation_on v o q k (a.values p) h.told refl refl (λ r lo. refl) lq (placed.values p lp).2 at first)
-            (silent (write a x n) rest w next
-            (wrote x n w.pc sr w.gate w.regs v.made v.answers lt small (onward_place (Bin o x p q) e refl) pc (λ r lo. refl) calm.gie
-            (goes S.code S.root (a ∷ rest) (h.opens ∷ h.outer) v.made v.answers h.reached (write a x n ∷ rest) (h.opens ∷ h.outer) next (opened (Bin o x p q) e refl)) refl (flagged S sr calm.gie calm.off calm.small (settled S h.told)))))
+            let first = subst (λ y. HasAt (S.c.sp + 2) v.sp v.regs v.stack (Of (home y)) (a.values p)) (sym t.1) (placed.values p lp) in (
+              0,
+              omega arith,
+              one 0 v w h.told refl (operation_on v o q k (a.values p) h.told refl refl (λ r lo. refl) lq (placed.values p lp).2 at first)
+                  (silent (write a x n) rest w next
+                  (wrote x n w.pc sr w.gate w.regs v.made v.answers lt small (onward_place (Bin o x p q) e refl) pc (λ r lo. refl) calm.gie
+                  (goes S.code S.root (a ∷ rest) (h.opens ∷ h.outer) v.made v.answers h.reached (write a x n ∷ rest) (h.opens ∷ h.outer) next (opened (Bin o x p q) e refl)) refl (flagged S sr calm.gie calm.off calm.small (settled S h.told)))),
+            )
         by (inr t) =
             let st = subst (λ b. Stand S a.f v.pc (cond b (two (operator o) (Of (home q)) k ∷ []) (moving (Of (home p)) scratch ∷ two (operator o) (Of (home q)) scratch ∷ moving (Of scratch) k ∷ [])) end) t.0 (stands (Bin o x p q) e) in
             let at = marked S a.f v.pc end [] (Two op2.Mov false (at_home (home p)) (Reg 12)) (two (operator o) (Of (home q)) scratch ∷ moving (Of scratch) k ∷ []) st in
@@ -378,10 +380,13 @@ module _ (S : Setting) (left : List Activation → ℕ) (most : ℕ) (P : Premis
             let at1 = marked S a.f u.pc end [] (Two (operator o) false (at_home (home q)) (Reg 12)) (moving (Of scratch) k ∷ []) st1 in
             let st2 = behind_two S a.f u.pc end [] (operator o) false (at_home (home q)) (Reg 12) (moving (Of scratch) k ∷ []) st1 in
             let w = operated u scratch (2 + further (at_home (home q)) + 0) n sr in
-            let low = low_registers v.regs (a.values p) in
-            (2, omega arith, fetch p 2 lp at
-            (one 1 u w t1 refl (operation_on u o q scratch (a.values p) t1 refl refl low lq (placed.values p lp).2 at1 (in_scratch v.sp u.regs v.stack (a.values p) (placed.values p lp).2 refl))
-            (finish x n (Bin o x p q) e refl refl next lt small w.pc sr w.gate w.regs st2 (flagged S sr calm.gie calm.off calm.small t1) calm.gie (λ r lo. low_registers u.regs n r lo ∙ low r lo) refl)))
+            let low = low_registers v.regs (a.values p) in (
+              2,
+              omega arith,
+              fetch p 2 lp at
+                  (one 1 u w t1 refl (operation_on u o q scratch (a.values p) t1 refl refl low lq (placed.values p lp).2 at1 (in_scratch v.sp u.regs v.stack (a.values p) (placed.values p lp).2 refl))
+                  (finish x n (Bin o x p q) e refl refl next lt small w.pc sr w.gate w.regs st2 (flagged S sr calm.gie calm.off calm.small t1) calm.gie (λ r lo. low_registers u.regs n r lo ∙ low r lo) refl)),
+            )
 
         pub bin : (i : ℕ) × (i ≤ 2) × Piece (suc i) v
         bin = by (eqb_tells x p)

@@ -1,25 +1,23 @@
 -- A function begins: its frame and its values are pushed as zeros, one after another or in a loop.
-use Rattle.std.proofs.Common.{None, ◌≡◌, ◌≢◌, ◌⊎◌, ⊎_elim, ℕ, ℤ, pos, negsuc, zero, suc, ◌+◌, ◌-◌, ◌*◌, ◌/◌, ◌%◌, ◌<◌, ◌≤◌, ◌==◌, Bool, true, false, cond, not, nat_lt, List, [], ◌∷◌, ◌++◌, length, Some, refl, sym, ap, ◌∙◌, subst, arith}
+use Rattle.std.proofs.Common.{◌≡◌, ◌≢◌, ◌⊎◌, ⊎_elim, ℕ, negsuc, zero, suc, ◌+◌, ◌-◌, ◌*◌, ◌/◌, ◌%◌, ◌<◌, ◌≤◌, ◌==◌, Bool, true, false, not, nat_lt, List, [], ◌∷◌, length, refl, sym, ap, ◌∙◌, subst, arith}
 use mathlib.Core.Logic.{inl, inr}
 use Rattle.std.specs.Prelude.{if◌then◌else◌}
-use Rattle.std.proofs.lemmas.Bool.{eq-eqb, ne_eqb}
+use Rattle.std.proofs.lemmas.Bool.{ne_eqb}
 use Rattle.std.proofs.lemmas.Bool.Decides.{nat_tests, eqb_tells}
 use Rattle.nm_base.specs.Lists.{bit, IsPrefixOf}
 use Rattle.nm_base.specs.declared.action.Action.{Action}
-use Rattle.msp_isa.specs.declared.code.Item.TheVariants as item
 use Rattle.msp_isa.specs.declared.instr.Cond.TheVariants.{Jne}
 use Rattle.msp_isa.specs.declared.instr.Instr.TheVariants.{Two, One, Jump}
 use Rattle.msp_isa.specs.declared.instr.Op1.TheVariants as op1
 use Rattle.msp_isa.specs.declared.instr.Op2.TheVariants as op2
 use Rattle.msp_isa.specs.declared.instr.Operand.TheVariants.{Reg, Constant}
 use Rattle.msp_isa.specs.Stands.{word_in}
-use Rattle.msp430_cpu.specs.Cpu.{changed_at, even}
-use Rattle.msp430_cpu.specs.Exec.{further, jumped}
+use Rattle.msp430_cpu.specs.Exec.{further}
 use Rattle.msp430_cpu.specs.Memory.{with_word_at}
 use Rattle.msp430_cpu.specs.Operate.{is_taken, operate}
 use Rattle.mid_code.specs.Machine.{Activation}
 use Rattle.mid_code.proofs.Calls.{some_code}
-use Rattle.open_law.specs.Homes.{Home, InRegister, InFrame, Made, Of, at_home, literal, operand_of, place_in}
+use Rattle.open_law.specs.Homes.{Made, Of, literal, operand_of, place_in}
 use Rattle.open_law.specs.Stands.{JumpsTo}
 use Rattle.open_law.proofs.View.{View}
 use Rattle.open_law.proofs.Quiet.{HasAt, held_at, passed, put_home}
@@ -29,11 +27,11 @@ use Rattle.open_law.proofs.Homes.{flags_zero, word_above}
 use Rattle.open_law.proofs.Chain.{Chain, step as chain_step, Takes, jump as jump_rule, move, operation, push}
 use Rattle.open_law.proofs.Law.{NextOf, Post}
 use Rattle.msp_select.specs.Frames.{is_among, pushed_behind}
-use Rattle.msp_select.specs.Select.{Part, entry_of, moving, plain, push_zero, scratch, zero_loop, zeros}
+use Rattle.msp_select.specs.Select.{Part, entry_of, plain, push_zero, scratch, zero_loop, zeros}
 use Rattle.msp_select.specs.Sound.{IsFramed}
 use Rattle.msp_select.proofs.Flags.{has_literal, tame}
-use Rattle.msp_select.proofs.Relation.{total, Setting, Callers, Entering, GoodOne, Here, Placed, Told, ToldAt, act, flagged, fn, good, moved, settled}
-use Rattle.msp_select.proofs.Kept.{Premises, SameFrom, callers_on, home_in, kept_of, ready, word_on, words_of}
+use Rattle.msp_select.proofs.Relation.{total, Setting, Callers, Entering, GoodOne, Here, Told, ToldAt, act, flagged, fn, good, moved, settled}
+use Rattle.msp_select.proofs.Kept.{Premises, callers_on, home_in, kept_of, ready, word_on, words_of}
 use Rattle.msp_select.proofs.Doing.{Rel, Stand, behind_one, behind_two, few_left, marked}
 
 abbrev pub many : ℕ → ℕ → ℕ
@@ -126,11 +124,12 @@ module _ (S : Setting) (left : List Activation → ℕ) (most : ℕ) (P : Premis
           let place = framed.parameter w lt is in
           let stands = framed.in_frame w lt in
           let r = h.passed w is in
-          let at : low_sp + place_in (S.homes a.f w) ≡ v.sp + 2 + 2 * pushed_behind (fn S a).params w = omega (arith, place, back) in
-          (home_in S low_sp (S.own a.f + 2 + 2 * words_of S a.f) (S.homes a.f w) (kept_of S a.f (S.homes a.f w) (framed.kept w lt)) (omega (arith, ro, back)),
-          ap (held_at low_sp regs stack) stands ∙ ap (word_in stack) at
-              ∙ word_on v.stack stack (v.sp + 2 + 2 * pushed_behind (fn S a).params w) (clear.above (v.sp + 2 + 2 * pushed_behind (fn S a).params w) (omega arith)) (clear.above (v.sp + 2 + 2 * pushed_behind (fn S a).params w + 1) (omega arith)) ∙ r.0,
-          r.1)
+          let at : low_sp + place_in (S.homes a.f w) ≡ v.sp + 2 + 2 * pushed_behind (fn S a).params w = omega (arith, place, back) in (
+            home_in S low_sp (S.own a.f + 2 + 2 * words_of S a.f) (S.homes a.f w) (kept_of S a.f (S.homes a.f w) (framed.kept w lt)) (omega (arith, ro, back)),
+            ap (held_at low_sp regs stack) stands ∙ ap (word_in stack) at
+                ∙ word_on v.stack stack (v.sp + 2 + 2 * pushed_behind (fn S a).params w) (clear.above (v.sp + 2 + 2 * pushed_behind (fn S a).params w) (omega arith)) (clear.above (v.sp + 2 + 2 * pushed_behind (fn S a).params w + 1) (omega arith)) ∙ r.0,
+            r.1,
+          )
       has_value w lt false none =
           let lo = h.low in let ro = h.room in let depth = (P.deep a.f h.function).least in let start = P.start.room in
           let back : low_sp + S.own a.f ≡ v.sp = omega (arith, lo, depth, start) in
@@ -139,10 +138,11 @@ module _ (S : Setting) (left : List Activation → ℕ) (most : ℕ) (P : Premis
           let x = place_in (S.homes a.f w) in
           let z0 = clear.zero (low_sp + x) (omega arith) (omega (arith, below, back)) in
           let z1 = clear.zero (low_sp + x + 1) (omega arith) (omega (arith, below, back)) in
-          let zero' = h.zero w none in
-          (home_in S low_sp (S.own a.f + 2 + 2 * words_of S a.f) (S.homes a.f w) (kept_of S a.f (S.homes a.f w) (framed.kept w lt)) (omega (arith, ro, back)),
-          ap (held_at low_sp regs stack) stands ∙ ap (λ n. n + 256 * stack (low_sp + x + 1)) z0 ∙ ap (λ n. 0 + 256 * n) z1 ∙ sym zero',
-          subst (λ n. n < 0x10000) (sym zero') (omega arith))
+          let zero' = h.zero w none in (
+            home_in S low_sp (S.own a.f + 2 + 2 * words_of S a.f) (S.homes a.f w) (kept_of S a.f (S.homes a.f w) (framed.kept w lt)) (omega (arith, ro, back)),
+            ap (held_at low_sp regs stack) stands ∙ ap (λ n. n + 256 * stack (low_sp + x + 1)) z0 ∙ ap (λ n. 0 + 256 * n) z1 ∙ sym zero',
+            subst (λ n. n < 0x10000) (sym zero') (omega arith),
+          )
 
   goes_on : (w : View) → Here S a rest w → After w
   goes_on w here =
@@ -263,8 +263,12 @@ module _ (S : Setting) (left : List Activation → ℕ) (most : ℕ) (P : Premis
           let st1 = behind_two S a.f v.pc end [] op2.Mov false (operand_of (literal n)) (Reg 12) (push_zero ∷ loop_tail) st in
           let count = turns_is n 0 in
           let same : turns (suc k) 0 ≡ turns n 0 = ap (λ m. turns m 0) (let z : suc k ≡ n = omega (arith, many') in z) in
-          inr (turns n 0, omega (arith, count, e), subst (λ m. Piece (suc m) v) same (one (turns (suc k) 0) v u h.told refl (move S.image S.data_end S.marks S.c.sp v (literal n) scratch n (ready S left most P v h.told) at (has_literal (S.c.sp + 2) v.sp v.regs v.stack n size) (omega arith, omega arith))
-          (loop k u.pc v.sp v.sr (bit v.sr 3) u.regs v.stack (omega (arith, up, size)) (sym up) (omega (arith, e, ev, up, lo, depth, start)) (omega arith) nothing_yet st1 refl (settled S h.told))))
+          inr (
+            turns n 0,
+            omega (arith, count, e),
+            subst (λ m. Piece (suc m) v) same (one (turns (suc k) 0) v u h.told refl (move S.image S.data_end S.marks S.c.sp v (literal n) scratch n (ready S left most P v h.told) at (has_literal (S.c.sp + 2) v.sp v.regs v.stack n size) (omega arith, omega arith))
+                (loop k u.pc v.sp v.sr (bit v.sr 3) u.regs v.stack (omega (arith, up, size)) (sym up) (omega (arith, e, ev, up, lo, depth, start)) (omega arith) nothing_yet st1 refl (settled S h.told))),
+          )
 
   pub begins : Result
   begins = begins_by (S.own a.f / 2) refl (nat_lt (S.own a.f / 2) 6) (subst (λ pc. Stand S a.f pc (entry_of (S.own a.f)) end) (sym h.pc) (P.standing.entry a.f h.function)) refl

@@ -1,18 +1,15 @@
 -- What operations leave in SR, and what they give.
-use Rattle.std.proofs.Common.{◌≡◌, ◌≢◌, ◌⊎◌, ⊎_elim, ℕ, ◌+◌, ◌-◌, ◌*◌, ◌/◌, ◌%◌, ◌^◌, ◌<◌, ◌≤◌, ◌==◌, Bool, true, false, cond, not, nat_lt, nat_le, refl, sym, ap, ◌∙◌, arith, bit_and}
-use Rattle.std.specs.Prelude.{bit_or, bit_xor}
-use Rattle.std.proofs.lemmas.Bool.{eq-eqb, ne_eqb}
-use Rattle.std.proofs.lemmas.Bool.Decides.{nat_tests, eqb_tells}
+use Rattle.std.proofs.Common.{◌≡◌, ℕ, ◌+◌, ◌-◌, ◌%◌, ◌<◌, Bool, true, false, cond, nat_lt, nat_le, refl, ap, ◌∙◌, arith}
+use Rattle.std.proofs.lemmas.Bool.Decides.{nat_tests}
 use Rattle.std.proofs.lemmas.Nat.{and_le_r, or_lt, xor_lt}
 use Rattle.nm_base.specs.Lists.{bit, number_of}
-use Rattle.msp_isa.specs.declared.instr.Op2.{Op2}
 use Rattle.msp_isa.specs.declared.instr.Op2.TheVariants as op2
-use Rattle.msp430_cpu.specs.Operate.{Result2, operate, reads_destination, with_flags}
+use Rattle.msp430_cpu.specs.Operate.{operate, reads_destination, with_flags}
 use Rattle.mid_code.specs.declared.instr.Op.{Op}
 use Rattle.mid_code.specs.declared.instr.Op.TheVariants as op
 use Rattle.mid_code.specs.Words as words
 use Rattle.open_law.proofs.Homes.{small_flags, flags_gie, flags_cpuoff, flags_carry}
-use Rattle.open_law.specs.Homes.{Source, Made, Number, is_made, literal}
+use Rattle.open_law.specs.Homes.{Made, Number, is_made, literal}
 use Rattle.open_law.proofs.Quiet.{HasAt}
 use Rattle.msp_select.specs.Select.{operator}
 

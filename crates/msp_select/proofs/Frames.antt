@@ -1,14 +1,11 @@
 -- The homes of a frame lie in it, and apart.
-use Rattle.std.proofs.Common.{◌≡◌, ◌≢◌, ◌⊎◌, ⊎_elim, ℕ, zero, suc, ◌+◌, ◌-◌, ◌*◌, ◌/◌, ◌<◌, ◌≤◌, ◌==◌, Bool, true, false, cond, List, [], ◌∷◌, refl, sym, ap, ◌∙◌, subst, arith}
+use Rattle.std.proofs.Common.{◌≡◌, ◌≢◌, ◌⊎◌, ⊎_elim, ℕ, zero, suc, ◌+◌, ◌-◌, ◌*◌, ◌<◌, ◌≤◌, ◌==◌, Bool, true, false, cond, List, [], ◌∷◌, refl, sym, ap, ◌∙◌, subst, arith}
 use mathlib.Core.Logic.{inl, inr}
 use Rattle.std.proofs.lemmas.Bool.Decides.{eqb_tells}
-use Rattle.msp430_cpu.specs.Cpu.{even}
-use Rattle.mid_code.specs.declared.code.MidCode.{MidCode}
 use Rattle.mid_code.specs.declared.code.MidFn.{MidFn}
 use Rattle.mid_code.specs.Machine.{fn_of}
-use Rattle.open_law.specs.Homes.{Apart, InFrame}
 use Rattle.msp_select.specs.Frames.{count_pushed, frame_home, frame_place, is_among, others_below, own_bytes, pushed_behind, rounded}
-use Rattle.msp_select.specs.Sound.{FramesFit, IsFramed, IsPlace}
+use Rattle.msp_select.specs.Sound.{FramesFit, IsPlace}
 
 clash : (b : Bool) → b ≡ false → b ≡ true → ⊥
 clash b f t = cc

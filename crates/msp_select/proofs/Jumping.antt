@@ -1,6 +1,5 @@
 -- Carries, jumps and branches.
-use Rattle.std.proofs.Common.{None, ◌≡◌, ◌≢◌, ◌⊎◌, ⊎_elim, ℕ, zero, suc, ◌+◌, ◌-◌, ◌*◌, ◌/◌, ◌%◌, ◌<◌, ◌≤◌, ◌==◌, Bool, true, false, cond, not, nat_lt, nat_le, List, [], ◌∷◌, ◌++◌, length, Some, refl, sym, ap, ◌∙◌, subst, arith}
-use mathlib.Core.Logic.{inl, inr}
+use Rattle.std.proofs.Common.{◌≡◌, ℕ, suc, ◌+◌, ◌-◌, ◌*◌, ◌/◌, ◌%◌, ◌<◌, ◌≤◌, Bool, true, false, not, nat_lt, nat_le, List, [], ◌∷◌, length, Some, refl, sym, ap, ◌∙◌, subst, arith}
 use Rattle.std.specs.Prelude.{bit_xor, pos, negsuc, if◌then◌else◌}
 use Rattle.std.proofs.lemmas.Bool.Decides.{nat_tests}
 use Rattle.std.proofs.lemmas.Nat.{xor_lt}
@@ -8,38 +7,36 @@ use Rattle.open_law.proofs.Homes.{flags_carry}
 use Rattle.nm_base.specs.Lists.{bit, number_of}
 use Rattle.nm_base.specs.declared.action.Action.{Action}
 use Rattle.msp_isa.specs.declared.code.Item.TheVariants as item
-use Rattle.msp_isa.specs.declared.instr.Cond.{Cond}
 use Rattle.msp_isa.specs.declared.instr.Cond.TheVariants as jump_if
 use Rattle.msp_isa.specs.declared.instr.Instr.TheVariants.{Two, Jump as JumpBy}
 use Rattle.msp_isa.specs.declared.instr.Op2.TheVariants as op2
-use Rattle.msp_isa.specs.declared.instr.Operand.TheVariants.{Reg, Immediate}
+use Rattle.msp_isa.specs.declared.instr.Operand.TheVariants.{Reg}
 use Rattle.msp_isa.specs.Stands.{AreAt, goto, instructions, reversed, words_to}
 use Rattle.msp430_cpu.specs.Cpu.{changed_at, even}
 use Rattle.msp430_cpu.specs.Exec.{further, jumped}
 use Rattle.msp430_cpu.specs.Operate.{differ, is_taken, operate}
 use Rattle.mid_code.specs.declared.instr.Mid.{Mid}
-use Rattle.mid_code.specs.declared.instr.Mid.TheVariants.{Carry, Jump, Branch, Label}
+use Rattle.mid_code.specs.declared.instr.Mid.TheVariants.{Carry, Jump, Branch}
 use Rattle.mid_code.specs.declared.instr.Op.{Op}
 use Rattle.mid_code.specs.declared.instr.Op.TheVariants as op
 use Rattle.mid_code.specs.declared.instr.Test.{Test}
 use Rattle.mid_code.specs.declared.instr.Test.TheVariants as test
 use Rattle.mid_code.specs.Words as words
-use Rattle.mid_code.specs.Machine.{Activation, Goes, at_place, fn_of, instruction, onward, perform, place_of, step, write}
-use Rattle.mid_code.specs.Form.{goes_elsewhere}
+use Rattle.mid_code.specs.Machine.{Activation, Goes, at_place, instruction, onward, place_of, step, write}
 use Rattle.mid_code.proofs.Labels.{stands_inside}
-use Rattle.open_law.specs.Homes.{Home, InRegister, Of, Made, at_home, literal, operand_of}
-use Rattle.open_law.specs.Stands.{IsMarked, JumpsTo}
+use Rattle.open_law.specs.Homes.{Of, Made, at_home, literal, operand_of}
+use Rattle.open_law.specs.Stands.{JumpsTo}
 use Rattle.open_law.proofs.View.{View}
 use Rattle.open_law.proofs.Quiet.{put_home, passed}
 use Rattle.open_law.proofs.Alu.{with_result}
-use Rattle.open_law.proofs.Chain.{Takes, move, operation, jump as jump_rule, go_to}
+use Rattle.open_law.proofs.Chain.{move, operation, jump as jump_rule, go_to}
 use Rattle.msp_select.specs.Select.{Part, is_turned, moving, parts_of, scratch, taken_by, two}
-use Rattle.msp_select.proofs.Compare.{cmp_tells, compared_sr}
+use Rattle.msp_select.proofs.Compare.{cmp_tells}
 use Rattle.msp_select.proofs.Flags.{Tame, carry_of_add, tame, tame_operator}
 use Rattle.msp_select.proofs.Reached.{goes}
-use Rattle.msp_select.proofs.Relation.{Setting, Here, Told, ToldAt, flagged, fn, labels, settled}
+use Rattle.msp_select.proofs.Relation.{Setting, Here, Told, ToldAt, flagged, fn, settled}
 use Rattle.msp_select.proofs.Kept.{Premises, ready}
-use Rattle.msp_select.proofs.Doing.{After, Piece, Stand, behind_two, end, fetch, finish, has_here, held, home, in_scratch, low_registers, marked, names, one, onward_place, opened, operated, operation_on, placed, silent, stands, stayed, steady, stepped, home_here, wrote}
+use Rattle.msp_select.proofs.Doing.{After, Piece, Stand, behind_two, end, fetch, finish, held, home, in_scratch, low_registers, marked, names, one, onward_place, opened, operated, operation_on, placed, silent, stands, stayed, steady, stepped, home_here, wrote}
 
 module _ (S : Setting) (left : List Activation → ℕ) (most : ℕ) (P : Premises S left most) (a : Activation) (rest : List Activation) (v : View) (h : Here S a rest v) (m0 : ℕ) (made0 : List Action) (few : 2 * left (a ∷ rest) ≤ m0) (since : v.made ≡ made0) where
   -- C to R12: MOV #0, R12; ADDC #0, R12
@@ -275,16 +272,22 @@ module _ (S : Setting) (left : List Activation → ℕ) (most : ℕ) (P : Premis
           let at = subst (λ is. AreAt S.image pc is st.0) (long_form t pc (target l) l) at' in
           let over : JumpsTo S.image S.marks pc (pc + 6) (reversed (taken_by t)) = record { offset = pos 2; at = record { at = at.0; table = st.1.first (let z = at.1.1 in omega (arith, z)) }; leads = (let hi = at.0.high in omega (arith, hi)) } in
           let mid = record v { pc = pc + 2; sr = sr; gate = bit sr 3 } in
-          let not_taken = reversed_not t sr ∙ ap not taken in
-          (1, omega arith, one S left most P a rest v h m0 made0 few since 1 before mid told refl (jump_rule S.image S.data_end S.marks S.c.sp before (reversed (taken_by t)) (pc + 6) false (ready S left most P before told) over not_taken)
-          (one S left most P a rest v h m0 made0 few since 0 mid (record v { pc = target l; sr = sr; gate = bit sr 3 }) (settled S told) refl
-          (go_to S.image S.data_end S.marks S.c.sp mid (target l) (ready S left most P mid (settled S told)) (record { at = at.1.0; table = st.1.inside (pc + 2) (omega arith) (let z = at.1.1 in omega (arith, z)) }) ev small) (taken_there is)))
+          let not_taken = reversed_not t sr ∙ ap not taken in (
+            1,
+            omega arith,
+            one S left most P a rest v h m0 made0 few since 1 before mid told refl (jump_rule S.image S.data_end S.marks S.c.sp before (reversed (taken_by t)) (pc + 6) false (ready S left most P before told) over not_taken)
+                (one S left most P a rest v h m0 made0 few since 0 mid (record v { pc = target l; sr = sr; gate = bit sr 3 }) (settled S told) refl
+                (go_to S.image S.data_end S.marks S.c.sp mid (target l) (ready S left most P mid (settled S told)) (record { at = at.1.0; table = st.1.inside (pc + 2) (omega arith) (let z = at.1.1 in omega (arith, z)) }) ev small) (taken_there is)),
+          )
       by_form true form at' false is taken =
           let at = subst (λ is. AreAt S.image pc is st.0) (long_form t pc (target l) l) at' in
           let over : JumpsTo S.image S.marks pc (pc + 6) (reversed (taken_by t)) = record { offset = pos 2; at = record { at = at.0; table = st.1.first (let z = at.1.1 in omega (arith, z)) }; leads = (let hi = at.0.high in omega (arith, hi)) } in
-          let is_turned' = reversed_not t sr ∙ ap not taken in
-          (0, omega arith, one S left most P a rest v h m0 made0 few since 0 before (record v { pc = pc + 6; sr = sr; gate = bit sr 3 }) told refl (jump_rule S.image S.data_end S.marks S.c.sp before (reversed (taken_by t)) (pc + 6) true (ready S left most P before told) over is_turned')
-          (passed_there is (pc + 6) ((let six : pc + 6 ≡ pc + 2 + 4 = omega arith in six) ∙ at.1.1 ∙ st.2)))
+          let is_turned' = reversed_not t sr ∙ ap not taken in (
+            0,
+            omega arith,
+            one S left most P a rest v h m0 made0 few since 0 before (record v { pc = pc + 6; sr = sr; gate = bit sr 3 }) told refl (jump_rule S.image S.data_end S.marks S.c.sp before (reversed (taken_by t)) (pc + 6) true (ready S left most P before told) over is_turned')
+                (passed_there is (pc + 6) ((let six : pc + 6 ≡ pc + 2 + 4 = omega arith in six) ∙ at.1.1 ∙ st.2)),
+          )
 
   -- CMP of two values
   compare : (p q n : ℕ) (tail : List Part) → p < (fn S a).values → q < (fn S a).values → Stand S a.f v.pc (two op2.Cmp (Of (home S left most P a rest v h m0 made0 few since q)) (home S left most P a rest v h m0 made0 few since p) ∷ tail) (end S left most P a rest v h m0 made0 few since) →

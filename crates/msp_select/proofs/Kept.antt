@@ -1,28 +1,25 @@
 -- What stays of a call's values and of the calls below it where something is written.
-use Rattle.std.proofs.Common.{◌≡◌, ◌≢◌, ◌⊎◌, ⊎_elim, ℕ, zero, suc, ◌+◌, ◌*◌, ◌/◌, ◌%◌, ◌<◌, ◌≤◌, ◌==◌, Bool, true, false, cond, List, [], ◌∷◌, ◌++◌, length, Option, Some, None, All, refl, sym, ap, ◌∙◌, subst, arith}
+use Rattle.std.proofs.Common.{◌≡◌, ◌≢◌, ◌⊎◌, ℕ, zero, suc, ◌+◌, ◌*◌, ◌<◌, ◌≤◌, ◌==◌, Bool, true, false, List, [], ◌∷◌, ◌++◌, length, Some, None, All, refl, sym, ap, ◌∙◌, subst, arith}
 use mathlib.Core.Logic.{inl, inr}
 use Rattle.std.specs.Prelude.{slice_get, Contains}
-use Rattle.std.proofs.lemmas.Bool.{eq-eqb, ne_eqb}
+use Rattle.std.proofs.lemmas.Bool.{ne_eqb}
 use Rattle.std.proofs.lemmas.Bool.Decides.{eqb_tells}
 use Rattle.std.proofs.lemmas.List.Elements.{All-head, All-tail}
 use Rattle.nm_base.specs.Lists.{bit}
 use Rattle.msp_isa.specs.Stands.{word_in}
 use Rattle.msp430_cpu.specs.Cpu.{even}
-use Rattle.msp430_cpu.specs.Memory.{with_word_at}
-use Rattle.mid_code.specs.declared.code.MidFn.{MidFn}
 use Rattle.mid_code.specs.declared.instr.Mid.{Mid}
-use Rattle.mid_code.specs.Form.{IsMidCode, NamesOwn, FitsProgram, goes_elsewhere}
-use Rattle.mid_code.specs.Machine.{Activation, at_place, fn_of, instruction, put, started, write}
+use Rattle.mid_code.specs.Form.{IsMidCode}
+use Rattle.mid_code.specs.Machine.{Activation, at_place, fn_of, put}
 use Rattle.mid_code.specs.Reached.{KeepsForm}
-use Rattle.mid_code.proofs.Calls.{behind, own_end, own_form}
-use Rattle.open_law.specs.Homes.{Home, InRegister, InFrame, Of, Apart, IsKept, place_in}
+use Rattle.open_law.specs.Homes.{Home, InRegister, InFrame, Of, IsKept}
 use Rattle.open_law.proofs.View.{View, IsRoomAt}
 use Rattle.open_law.proofs.Quiet.{HasAt, IsHomeAt, held_at, put_regs, put_stack}
-use Rattle.open_law.proofs.Homes.{held_same, held_other, held_scratch, word_above, word_other}
+use Rattle.open_law.proofs.Homes.{held_same, held_other, held_scratch}
 use Rattle.open_law.proofs.Law.{IsStart}
-use Rattle.msp_select.specs.Select.{parts_of, raised, takes}
+use Rattle.msp_select.specs.Select.{raised, takes}
 use Rattle.msp_select.specs.Sound.{IsSelectable, IsDeep, IsFramed, IsPaced, IsPlace, IsStanding, PartsStand, TouchesObjects, parameters}
-use Rattle.msp_select.proofs.Relation.{Setting, AllApart, Callers, IsCaller, IsFree, IsSlot, Placed, Saved, Told, extent, fn, labels}
+use Rattle.msp_select.proofs.Relation.{Setting, Callers, IsFree, IsSlot, Placed, Saved, Told, fn, labels}
 
 -- all that selection relies on
 pub record Premises (S : Setting) (left : List Activation → ℕ) (most : ℕ) : Type 0 where
@@ -112,9 +109,13 @@ module _ (S : Setting) where
 
   pub callers_on : (stack stack' : ℕ → ℕ) (now : Bool) (s f : ℕ) (rest : List Activation) (outer : List (List ℕ)) → SameAbove s (words_of f) stack stack' → Callers S stack now s f rest outer → Callers S stack' now s f rest outer
   callers_on stack stack' now s f [] [] same h =
-      let e = h.0 in
-      (h.0, h.1, h.2, subst (λ n. word_in stack' n ≡ word_in S.ram S.c.sp) e
-      (word_on stack stack' s (same s (omega arith) (inl (omega arith))) (same (s + 1) (omega arith) (inl (omega arith))) ∙ ap (word_in stack) e ∙ h.3))
+      let e = h.0 in (
+        h.0,
+        h.1,
+        h.2,
+        subst (λ n. word_in stack' n ≡ word_in S.ram S.c.sp) e
+            (word_on stack stack' s (same s (omega arith) (inl (omega arith))) (same (s + 1) (omega arith) (inl (omega arith))) ∙ ap (word_in stack) e ∙ h.3),
+      )
   callers_on stack stack' now s f [] (o ∷ outer) same h = absurd h
   callers_on stack stack' now s f (a ∷ rest) [] same h = absurd h
   callers_on stack stack' now s f (a ∷ rest) (opens ∷ outer) same h =

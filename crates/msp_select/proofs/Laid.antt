@@ -1,7 +1,7 @@
 -- Selected code stands where it is laid out.
-use Rattle.std.proofs.Common.{◌≡◌, ◌≢◌, ◌⊎◌, ℕ, zero, suc, ◌+◌, ◌*◌, ◌/◌, ◌%◌, ◌<◌, ◌≤◌, ◌==◌, Bool, true, false, cond, List, [], ◌∷◌, ◌++◌, length, length-append, Option, Some, None, All, refl, sym, ap, ◌∙◌, subst, arith}
+use Rattle.std.proofs.Common.{◌≡◌, ◌≢◌, ◌⊎◌, ℕ, zero, suc, ◌+◌, ◌*◌, ◌/◌, ◌%◌, ◌<◌, ◌≤◌, ◌==◌, Bool, true, false, List, [], ◌∷◌, ◌++◌, length, length-append, Some, All, refl, sym, ap, ◌∙◌, subst, arith}
 use mathlib.Core.Logic.{inl, inr}
-use Rattle.std.specs.Prelude.{slice_get, slice_index_or, if◌then◌else◌, nat_lt}
+use Rattle.std.specs.Prelude.{slice_get, if◌then◌else◌, nat_lt}
 use Rattle.std.proofs.lemmas.Bool.Decides.{eqb_tells}
 use Rattle.nm_base.specs.declared.action.Action.{Action}
 use Rattle.msp_isa.specs.declared.code.CodeFn.{CodeFn}
@@ -9,7 +9,7 @@ use Rattle.msp_isa.specs.declared.code.Item.{Item}
 use Rattle.msp_isa.specs.declared.code.Item.TheVariants as item
 use Rattle.msp_isa.specs.declared.instr.Instr.{Instr}
 use Rattle.msp_isa.specs.Encode.{encoded}
-use Rattle.msp_isa.specs.Stands.{AreAt, IsAt, IsLaid, LeadsTo, instructions, item_at, items_of}
+use Rattle.msp_isa.specs.Stands.{AreAt, IsLaid, LeadsTo, instructions, item_at, items_of}
 use Rattle.msp430_cpu.specs.Cpu.{even}
 use Rattle.mid_code.specs.declared.code.MidCode.{MidCode}
 use Rattle.mid_code.specs.declared.instr.Mid.{Mid}
@@ -25,7 +25,7 @@ use Rattle.msp_isa.specs.declared.instr.Operand.TheVariants.{Reg, Indexed, Absol
 use Rattle.msp_isa.specs.declared.instr.Operand.{Operand}
 use Rattle.msp430_cpu.specs.Exec.{further}
 use Rattle.msp_select.specs.Frames.{count_pushed, pushed}
-use Rattle.msp_select.specs.Select.{Part, entry_of, fetched, gives, is_turned, moving, operator, parts_of, parts_of_all, parts_of_fn, plain, pushes, raised, return, stored, takes, two, zero_loop, zeros, items_of as items_of_parts}
+use Rattle.msp_select.specs.Select.{Part, entry_of, fetched, gives, is_turned, moving, operator, parts_of, parts_of_all, plain, pushes, raised, stored, takes, two, zero_loop, zeros, items_of as items_of_parts}
 use Rattle.msp_select.specs.Sound.{IsStanding, PartStands, PartsStand, target_of}
 use Rattle.msp_select.specs.Laid.{AreMarked, LaidCodeStands, part_at, parts, parts_before, start_of}
 use Rattle.msp_select.proofs.Kept.{all_get, there}

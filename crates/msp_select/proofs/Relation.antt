@@ -1,14 +1,13 @@
 -- What relates the open machine's calls to what code can rely on.
-use Rattle.std.proofs.Common.{None, Option, ◌≡◌, ◌⊎◌, ℕ, zero, suc, ◌+◌, ◌*◌, ◌<◌, ◌≤◌, Bool, true, false, nat_lt, List, [], ◌∷◌, ◌++◌, length, Some, sym, ap, ◌∙◌, arith}
-use Rattle.std.specs.Prelude.{slice_get, Contains}
+use Rattle.std.proofs.Common.{None, Option, ◌≡◌, ◌⊎◌, ℕ, suc, ◌+◌, ◌*◌, ◌<◌, ◌≤◌, Bool, true, false, nat_lt, List, [], ◌∷◌, ◌++◌, length, Some, sym, ap, ◌∙◌, arith}
+use Rattle.std.specs.Prelude.{Contains}
 use Rattle.nm_base.specs.Lists.{bit, IsPrefixOf, number_of}
 use Rattle.nm_base.specs.declared.action.Action.{Action}
-use Rattle.nm_base.specs.Behaviour.{Trace, is_begin, is_end, play}
+use Rattle.nm_base.specs.Behaviour.{Trace, is_begin, is_end}
 use Rattle.msp_isa.specs.Stands.{word_in}
 use Rattle.msp430_cpu.specs.Cpu.{Cpu, even, gie}
 use Rattle.mid_code.specs.declared.code.MidFn.{MidFn}
 use Rattle.mid_code.specs.declared.code.MidCode.{MidCode}
-use Rattle.mid_code.specs.declared.instr.Mid.{Mid}
 use Rattle.mid_code.specs.declared.instr.Mid.TheVariants.{Call, Begin}
 use Rattle.mid_code.specs.Form.{AreBelow}
 use Rattle.mid_code.specs.Machine.{Activation, fn_of, instruction, place_of, put_all}
@@ -16,7 +15,7 @@ use Rattle.open_law.specs.Homes.{Home, Of}
 use Rattle.open_law.proofs.View.{View}
 use Rattle.open_law.proofs.Quiet.{HasAt}
 use Rattle.open_law.proofs.Law.{Obeys, Good}
-use Rattle.msp_select.specs.Frames.{count_pushed, is_among, pushed_behind}
+use Rattle.msp_select.specs.Frames.{is_among, pushed_behind}
 use Rattle.msp_select.specs.Select.{raised, takes}
 use Rattle.msp_select.specs.Sound.{body_of, parameters, PartsStand}
 use Rattle.msp_select.proofs.Nest.{nested, is_nested, IsEven, inside_is, even_plain}

@@ -1,5 +1,5 @@
 -- A caller goes on behind its call.
-use Rattle.std.proofs.Common.{None, ◌≡◌, ◌≢◌, ◌⊎◌, ⊎_elim, ℕ, zero, suc, ◌+◌, ◌-◌, ◌*◌, ◌/◌, ◌%◌, ◌<◌, ◌≤◌, ◌==◌, Bool, true, false, cond, nat_lt, List, [], ◌∷◌, ◌++◌, length, map, Some, Option, All, refl, sym, ap, ◌∙◌, subst, arith}
+use Rattle.std.proofs.Common.{◌≡◌, ◌≢◌, ◌⊎◌, ℕ, suc, ◌+◌, ◌*◌, ◌<◌, ◌≤◌, ◌==◌, Bool, true, false, List, [], ◌∷◌, ◌++◌, length, refl, sym, ap, ◌∙◌, subst, arith}
 use mathlib.Core.Logic.{inl, inr}
 use Rattle.std.specs.Prelude.{if◌then◌else◌}
 use Rattle.std.proofs.lemmas.Bool.Decides.{nat_tests, eqb_tells}
@@ -9,23 +9,22 @@ use Rattle.nm_base.specs.declared.action.Action.{Action}
 use Rattle.msp_isa.specs.declared.instr.Instr.TheVariants.{Two}
 use Rattle.msp_isa.specs.declared.instr.Op2.TheVariants as op2
 use Rattle.msp_isa.specs.declared.instr.Operand.TheVariants.{Reg}
-use Rattle.msp430_cpu.specs.Cpu.{even}
 use Rattle.msp430_cpu.specs.Exec.{further}
 use Rattle.msp430_cpu.specs.Operate.{operate}
 use Rattle.mid_code.specs.Form.{AreBelow}
 use Rattle.mid_code.specs.Machine.{Activation, put, put_all}
 use Rattle.open_law.specs.Homes.{Home, InRegister, InFrame, Of, at_home, literal, operand_of}
 use Rattle.open_law.proofs.View.{View}
-use Rattle.open_law.proofs.Quiet.{HasAt, passed, put_home, put_regs, put_stack}
+use Rattle.open_law.proofs.Quiet.{HasAt, passed, put_home, put_regs}
 use Rattle.open_law.proofs.Chain.{Chain, step as chain_step, drop_frame, move, Takes}
 use Rattle.open_law.proofs.Law.{NextOf, Post}
-use Rattle.msp_select.specs.Select.{Part, plain, raised, takes}
+use Rattle.msp_select.specs.Select.{Part, plain, takes}
 use Rattle.msp_select.proofs.Flags.{has_literal, tame}
 use Rattle.msp_select.specs.Sound.{IsPlace}
 use Rattle.msp_select.proofs.Nest.{nested}
 use Rattle.msp_select.proofs.Reached.{Reached}
 use Rattle.msp_select.proofs.Relation.{Setting, AreIn, Callers, GoodOne, Here, Placed, Resuming, Told, ToldAt, act, flagged, fn, good, moved, settled}
-use Rattle.msp_select.proofs.Kept.{Premises, callers_wrote, home_of, placed_wrote, ready, words_of}
+use Rattle.msp_select.proofs.Kept.{Premises, callers_wrote, home_of, placed_wrote, ready}
 use Rattle.msp_select.proofs.Doing.{Rel, Stand, behind_two, few_left, marked}
 
 module _ (S : Setting) (left : List Activation → ℕ) (most : ℕ) (P : Premises S left most) (a : Activation) (rest : List Activation) (v : View) (h : Resuming S a rest v) (m0 : ℕ) (made0 : List Action) (few : 2 * left (a ∷ rest) < m0) where
@@ -154,9 +153,12 @@ module _ (S : Setting) (left : List Activation → ℕ) (most : ℕ) (P : Premis
       let plus : v.pc + (2 + further (operand_of (literal n)) + 0) ≡ v.pc + (2 + further (operand_of (literal n))) = omega arith in
       let st1 = subst (λ m. Stand S a.f m tail end) plus st0 in
       let t1 = moved S (v.sp + n) (omega (arith, lo, depth)) (omega (arith, ro)) (omega (arith, es)) (flagged S sr calm.gie calm.off calm.small (settled S h.told)) in
-      inr (length h.taken, h.few,
-      one (length h.taken) v w h.told refl (drop_frame S.image S.data_end S.marks S.c.sp v (literal n) n (ready S left most P v h.told) at (has_literal (S.c.sp + 2) v.sp v.regs v.stack n (omega (arith, ro, hi))) (omega (arith, ro)) (omega arith))
-      (taking h.taken h.given 12 w h.many (omega arith) (let f = h.few in omega (arith, f)) h.below (taking_at (v.sp + n) refl w.pc sr w.gate calm.gie t1) st1))
+      inr (
+        length h.taken,
+        h.few,
+        one (length h.taken) v w h.told refl (drop_frame S.image S.data_end S.marks S.c.sp v (literal n) n (ready S left most P v h.told) at (has_literal (S.c.sp + 2) v.sp v.regs v.stack n (omega (arith, ro, hi))) (omega (arith, ro)) (omega arith))
+            (taking h.taken h.given 12 w h.many (omega arith) (let f = h.few in omega (arith, f)) h.below (taking_at (v.sp + n) refl w.pc sr w.gate calm.gie t1) st1),
+      )
 
   pub resume : Result
   resume = by (2 * h.words == 0) (eqb_tells (2 * h.words) 0) h.stands

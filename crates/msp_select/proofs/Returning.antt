@@ -1,8 +1,8 @@
 -- Returns: what a function gives goes to registers, and its caller goes on.
-use Rattle.std.proofs.Common.{None, ◌≡◌, ◌≢◌, ◌⊎◌, ⊎_elim, ℕ, zero, suc, ◌+◌, ◌-◌, ◌*◌, ◌/◌, ◌%◌, ◌<◌, ◌≤◌, ◌==◌, Bool, true, false, cond, nat_lt, List, [], ◌∷◌, ◌++◌, length, map, Some, Option, All, refl, sym, ap, ◌∙◌, subst, arith}
+use Rattle.std.proofs.Common.{◌≡◌, ◌≢◌, ◌⊎◌, ℕ, suc, ◌+◌, ◌*◌, ◌<◌, ◌≤◌, ◌==◌, Bool, true, false, cond, nat_lt, List, [], ◌∷◌, ◌++◌, length, map, Some, All, refl, sym, ap, ◌∙◌, subst, arith}
 use mathlib.Core.Logic.{inl, inr}
 use Rattle.std.specs.Prelude.{if◌then◌else◌}
-use Rattle.std.proofs.lemmas.Bool.{eq-eqb, ne_eqb}
+use Rattle.std.proofs.lemmas.Bool.{eq-eqb}
 use Rattle.std.proofs.lemmas.Bool.Decides.{nat_tests, eqb_tells}
 use Rattle.std.proofs.lemmas.List.Elements.{All-head, All-tail}
 use Rattle.nm_base.specs.Lists.{bit}
@@ -15,26 +15,24 @@ use Rattle.msp_isa.specs.Stands.{word_in}
 use Rattle.msp430_cpu.specs.Cpu.{changed_at, even}
 use Rattle.msp430_cpu.specs.Exec.{further}
 use Rattle.msp430_cpu.specs.Operate.{operate}
-use Rattle.mid_code.specs.declared.instr.Mid.{Mid}
 use Rattle.mid_code.specs.declared.instr.Mid.TheVariants.{Call, Ret}
-use Rattle.mid_code.specs.Machine.{Activation, Ends, Goes, fn_of, give_back, instruction, put_all, step, take_back, write_all}
+use Rattle.mid_code.specs.Machine.{Activation, Ends, Goes, give_back, instruction, step, take_back, write_all}
 use Rattle.mid_code.specs.Words.{joined}
 use Rattle.mid_code.specs.Form.{FitsProgram, NamesOwn}
 use Rattle.mid_code.proofs.Calls.{behind, own_end, own_form}
 use Rattle.mid_code.specs.Reached.{opens_behind}
-use Rattle.open_law.specs.Homes.{Home, InRegister, Of, at_home, literal, operand_of}
+use Rattle.open_law.specs.Homes.{InRegister, Of, at_home, literal, operand_of}
 use Rattle.open_law.specs.Body.{given_in}
-use Rattle.open_law.specs.Stands.{IsMarked}
 use Rattle.open_law.proofs.View.{View}
-use Rattle.open_law.proofs.Quiet.{HasAt, passed, put_home}
+use Rattle.open_law.proofs.Quiet.{passed, put_home}
 use Rattle.open_law.proofs.Chain.{drop_frame, move, ret}
 use Rattle.open_law.proofs.Law.{Over}
 use Rattle.msp_select.specs.Select.{Part, gives, plain, raised, return, takes}
 use Rattle.msp_select.specs.Sound.{IsDeeper, PartsStand}
 use Rattle.msp_select.proofs.Nest.{inside_is, nested}
-use Rattle.msp_select.proofs.Flags.{Tame, has_literal, tame}
-use Rattle.msp_select.proofs.Reached.{Reached, ended, goes}
-use Rattle.msp_select.proofs.Relation.{Setting, AreIn, Callers, Here, Placed, Resuming, Saved, Sound, Told, ToldAt, act, clash, flagged, fn, labels, moved, settled, total}
+use Rattle.msp_select.proofs.Flags.{has_literal, tame}
+use Rattle.msp_select.proofs.Reached.{ended, goes}
+use Rattle.msp_select.proofs.Relation.{Setting, AreIn, Callers, Here, Saved, ToldAt, act, clash, flagged, fn, labels, moved, settled, total}
 use Rattle.msp_select.proofs.Kept.{Premises, all_get, has, ready, words_of}
 use Rattle.msp_select.proofs.Doing.{After, Piece, Stand, begun, behind_two, end, few_left, fits, marked, may, names, one, placed, stands, stepped}
 
@@ -275,6 +273,9 @@ module _ (S : Setting) (left : List Activation → ℕ) (most : ℕ) (P : Premis
         let l = leaving in
         let short = few_given in
         let few' = l.1 in
-        let total' : length vs + suc l.0 ≡ suc (length vs + l.0) = omega arith in
-        (length vs + l.0, omega (arith, short, few'), subst (λ n. Piece S left most P a rest v h m0 made0 few since n v) total'
-        (giving vs (suc l.0) (raised (S.own a.f) ++ return ∷ []) short (names S left most P a rest v h (Ret vs) e).read (stands S left most P a rest v h (Ret vs) e) l.2))
+        let total' : length vs + suc l.0 ≡ suc (length vs + l.0) = omega arith in (
+          length vs + l.0,
+          omega (arith, short, few'),
+          subst (λ n. Piece S left most P a rest v h m0 made0 few since n v) total'
+              (giving vs (suc l.0) (raised (S.own a.f) ++ return ∷ []) short (names S left most P a rest v h (Ret vs) e).read (stands S left most P a rest v h (Ret vs) e) l.2),
+        )

@@ -1,7 +1,7 @@
 -- The code of all instructions together meets the open law.
 use Rattle.std.proofs.Common.{None, ◌≡◌, ◌⊎◌, ℕ, zero, suc, ◌+◌, ◌-◌, ◌*◌, ◌/◌, ◌<◌, ◌≤◌, true, false, List, [], ◌∷◌, length, Some, refl, sym, ap, ◌∙◌, subst, arith}
 use mathlib.Core.Logic.{inl, inr}
-use Rattle.std.specs.Prelude.{slice_get, slice_index}
+use Rattle.std.specs.Prelude.{slice_index}
 use Rattle.nm_base.specs.declared.action.Action.{Action}
 use Rattle.msp430_cpu.specs.Cpu.{Cpu}
 use Rattle.mid_code.specs.declared.code.MidCode.{MidCode}
@@ -15,12 +15,12 @@ use Rattle.open_law.proofs.View.{View}
 use Rattle.open_law.proofs.Chain.{Chain}
 use Rattle.open_law.proofs.Law.{IsStart, Keeps, NextOf, Post as Behind, open_law}
 use Rattle.msp_select.specs.Frames.{count_pushed, is_among}
-use Rattle.msp_select.specs.Sound.{IsSelected, SelectedCodeIsOpen, body_of}
+use Rattle.msp_select.specs.Sound.{SelectedCodeIsOpen, body_of}
 use Rattle.msp_select.proofs.Nest.{is_nested}
 use Rattle.msp_select.proofs.Reached.{at_start, goes, told as told_of}
 use Rattle.msp_select.proofs.Relation.{Setting, Entering, GoodOne, Here, Resuming, act, clash, fn}
 use Rattle.msp_select.proofs.Kept.{Premises, there, words_of}
-use Rattle.msp_select.proofs.Doing.{Rel, Stand, bin, copy, few_left, fault_piece, fewer_left, fits, give_port, load_byte, load_word, onward_place, opened, peek_byte, peek_word, poke_byte', poke_word, set, stands, stayed, stepped, store_byte, store_word, take_port, tick}
+use Rattle.msp_select.proofs.Doing.{Rel, bin, copy, few_left, fault_piece, fewer_left, fits, give_port, load_byte, load_word, onward_place, opened, peek_byte, peek_word, poke_byte', poke_word, set, stands, stayed, stepped, store_byte, store_word, take_port, tick}
 use Rattle.msp_select.proofs.Jumping.{branch, carry_add, carry_none, carry_sub, go}
 use Rattle.msp_select.proofs.Atomic.{begin, finish_atomic}
 use Rattle.msp_select.proofs.Calling.{enter_call, put_all_apart}

@@ -1,5 +1,5 @@
 -- Worked rows of selection: a function of three values, the last a parameter, with three bytes of frame.
-use Rattle.std.specs.Prelude.{◌≡◌, ℕ, true, false, List, [], ◌∷◌}
+use Rattle.std.specs.Prelude.{◌≡◌, false, [], ◌∷◌}
 use Rattle.msp_isa.specs.declared.code.Item.TheVariants as item
 use Rattle.msp_isa.specs.declared.instr.Cond.TheVariants.{Jge}
 use Rattle.msp_isa.specs.declared.instr.Instr.TheVariants.{Two, One}
@@ -10,7 +10,6 @@ use Rattle.mid_code.specs.declared.code.MidFn.{MidFn}
 use Rattle.mid_code.specs.declared.code.MidCode.{MidCode}
 use Rattle.mid_code.specs.declared.instr.Op.TheVariants as op
 use Rattle.mid_code.specs.declared.instr.Test.TheVariants as test
-use Rattle.mid_code.specs.declared.instr.Mid.{Mid}
 use Rattle.mid_code.specs.declared.instr.Mid.TheVariants.{Set, Bin, Branch, Call, Ret}
 use Rattle.msp_select.specs.Frames.{own_bytes, frame_place, frame_home}
 use Rattle.msp_select.specs.Select.{parts_of, entry_of, items_of}

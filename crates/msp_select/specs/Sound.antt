@@ -1,18 +1,16 @@
 -- What selected code relies on: where it stands, where values are kept, how deep the stack goes, and when actions come (own).
-use Rattle.std.specs.Prelude.{◌≡◌, ◌≢◌, ◌⊎◌, ℕ, ◌+◌, ◌*◌, ◌/◌, ◌^◌, ◌<◌, ◌≤◌, Bool, true, false, List, [], ◌∷◌, ◌++◌, length, Option, Some, None, slice_get}
-use Rattle.std.specs.List.{All}
+use Rattle.std.specs.Prelude.{◌≡◌, ◌≢◌, ◌⊎◌, ℕ, ◌+◌, ◌*◌, ◌/◌, ◌^◌, ◌<◌, ◌≤◌, Bool, true, false, List, [], ◌∷◌, length, Option, Some, slice_get}
 use Rattle.nm_base.specs.declared.action.Action.{Action}
 use Rattle.nm_base.specs.Behaviour.{Trace, play}
 use Rattle.msp_isa.specs.declared.code.Item.{Item}
 use Rattle.msp_isa.specs.declared.code.Item.TheVariants as item
 use Rattle.msp_isa.specs.Stands.{AreAt, instructions}
 use Rattle.msp430_cpu.specs.Cpu.{even}
-use Rattle.mid_code.specs.declared.code.MidFn.{MidFn}
 use Rattle.mid_code.specs.declared.code.MidCode.{MidCode}
 use Rattle.mid_code.specs.declared.instr.Mid.{Mid}
 use Rattle.mid_code.specs.declared.instr.Mid.TheVariants.{Set, Load, Store, Call, Help, Post, Fault}
 use Rattle.mid_code.specs.Form.{IsMidCode}
-use Rattle.mid_code.specs.Machine.{Activation, Next, Goes, fn_of, instruction, place_of, started, step, steps}
+use Rattle.mid_code.specs.Machine.{Activation, Goes, fn_of, place_of, started, step, steps}
 use Rattle.mid_code.specs.Reached.{KeepsForm, bytes, innermost_instruction, state_at}
 use Rattle.open_law.specs.Homes.{Home, InRegister, InFrame, Apart, place_in}
 use Rattle.open_law.specs.Body.{IsOpenFunction}

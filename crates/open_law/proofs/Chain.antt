@@ -11,7 +11,7 @@ use Rattle.msp430_cpu.specs.Cpu.{even, changed_at}
 use Rattle.msp430_cpu.specs.Memory.{with_word_at}
 use Rattle.msp430_cpu.specs.Exec.{Step, stepped_of, further, jumped}
 use Rattle.msp430_cpu.specs.Operate.{is_taken, operate, reads_destination}
-use Rattle.open_law.specs.Homes.{Home, InRegister, InFrame, Source, Of, Number, at_home, operand_of, IsByte, IsWord, IsPort}
+use Rattle.open_law.specs.Homes.{Home, InRegister, InFrame, Source, Of, at_home, operand_of, IsByte, IsWord, IsPort}
 use Rattle.open_law.specs.Open.{Done, actions_of, answers_of, fault_of, silent, Moment, IsMoment, Open, Code, AreMarks, AreWordOuts, IsFair, disturbed, instruction, went, logged_bus}
 use Rattle.msp_isa.specs.Stands.{word_in}
 use Rattle.open_law.specs.Stands.{IsMarked, JumpsTo}

@@ -1,5 +1,5 @@
 -- Instructions that read and write memory where a register leads: bytes of objects, and words and bytes of the frame.
-use Rattle.std.proofs.Common.{Option, ◌≡◌, ◌≢◌, ◌⊎◌, ⊎_elim, ℕ, zero, suc, ◌+◌, ◌*◌, ◌/◌, ◌%◌, ◌<◌, ◌≤◌, ◌==◌, Bool, true, false, cond, not, List, [], ◌∷◌, ◌++◌, refl, ap, ◌∙◌, arith}
+use Rattle.std.proofs.Common.{Option, ◌≡◌, ◌≢◌, ◌⊎◌, ⊎_elim, ℕ, zero, suc, ◌+◌, ◌/◌, ◌%◌, ◌<◌, ◌≤◌, ◌==◌, Bool, true, false, cond, not, List, [], ◌∷◌, ◌++◌, refl, ap, ◌∙◌, arith}
 use Rattle.std.proofs.lemmas.Bool.Decides.{nat_tests, eqb_tells}
 use Rattle.nm_base.specs.Lists.{bit}
 use Rattle.nm_base.specs.declared.action.Action.{Action}
@@ -17,7 +17,7 @@ use Rattle.msp430_cpu.specs.Memory.{is_ram, is_port, with_word_at}
 use Rattle.open_law.specs.Homes.{Home, InRegister, InFrame, Source, Of, Number, Made, StackPointer, at_home, operand_of, IsByte}
 use Rattle.open_law.specs.Open.{Done, Logged, Moment, is_data, logged_bus, logged_write, logged_read}
 use Rattle.open_law.proofs.View.{View, even_at, cpu_of, memory_of, state_of, Fits, Leads, IsRoom, runs, behind, word_bytes}
-use Rattle.open_law.proofs.Quiet.{Has, IsHome, put_home, passed, few, little, reg_plain, reads, sourced, put_source, lands, kept_above, stack_word, stack_byte, stack_write, stack_write_byte}
+use Rattle.open_law.proofs.Quiet.{Has, IsHome, put_home, passed, few, little, reg_plain, sourced, put_source, lands, kept_above, stack_word, stack_byte, stack_write, stack_write_byte}
 use Rattle.open_law.proofs.Acting.{noted_doing, address_in}
 
 module _ (image : ℕ → ℕ) (data_end top : ℕ) (now : Moment) where
