@@ -1,5 +1,5 @@
 -- The grammar keeps what forms have to keep.
-use Rattle.std.proofs.Common.{◌≡◌, ℕ, suc, Bool, true, false, List, Err, refl}
+use Rattle.std.proofs.Common.{◌≡◌, ℕ, suc, Bool, true, false, List, length, Err, refl}
 use Rattle.nm_base.specs.declared.token.Token.{Token}
 use Rattle.nesc_tree.specs.declared.sorts.Sort.{Sort}
 use Rattle.nesc_tree.specs.declared.sorts.Sort.TheVariants as s
@@ -10,6 +10,7 @@ use Rattle.nesc_tree.specs.Reading.{Fault, stop, rest_of, read, phrase, nests}
 use Rattle.nesc_tree.specs.Grammar.{production}
 use Rattle.nesc_tree.proofs.Fine.{Fine}
 use Rattle.nesc_tree.proofs.Checked.{checked, opened}
+use Rattle.nesc_tree.proofs.Moves.{Moves, phrase_moves}
 use Rattle.nesc_tree.proofs.Open.{Open, stay, bars, Seed, seed, seed_of}
 use Rattle.nesc_tree.proofs.Some.{left_no}
 use Rattle.nesc_tree.proofs.Fresh.{fresh}
@@ -55,6 +56,9 @@ ends Phrase.opened = refl
 ends Phrase.fields = refl
 ends Phrase.pointers = refl
 ends Phrase.type = refl
+
+pub reads_on : (d : ℕ) (k : Phrase) (p : Place) → Moves (begins k (next p)) (length p.rest) (phrase production d k p)
+reads_on = phrase_moves production all_fine table
 
 pub reads_spelled : (d : ℕ) (k : Phrase) (p : Place) → sound.Sound (λ a q. SpellsIn production d k p a q) (phrase production d k p)
 reads_spelled = sound.phrase_sound production all_fine table

@@ -17,12 +17,18 @@ use Rattle.nesc_tree.specs.declared.tree.Expr.{Expr}
 use Rattle.nesc_tree.specs.declared.tree.Expr.TheVariants as e
 use Rattle.nesc_tree.specs.declared.tree.Base.{Base}
 use Rattle.nesc_tree.specs.declared.tree.Base.TheVariants as b
+use Rattle.nesc_tree.specs.declared.tree.FieldGroup.{roll-FieldGroup}
 use Rattle.nesc_tree.specs.declared.operand.Operand.{Operand}
 use Rattle.nesc_tree.specs.declared.operand.Arguments.{Arguments}
 use Rattle.nesc_tree.specs.declared.operand.CastType.{CastType}
+use Rattle.nesc_tree.specs.declared.operand.Qualifiers.{Qualifiers}
 use Rattle.nesc_tree.specs.declared.operand.Fields.{Fields}
-use Rattle.nesc_tree.specs.declared.tree.Param.{Param}
-use Rattle.nesc_tree.specs.declared.tree.EnumItem.{EnumItem}
+use Rattle.nesc_tree.specs.declared.operand.Grouped.{Grouped}
+use Rattle.nesc_tree.specs.declared.operand.Item.{Item}
+use Rattle.nesc_tree.specs.declared.operand.Items.{Items}
+use Rattle.nesc_tree.specs.declared.operand.Dims.{Dims}
+use Rattle.nesc_tree.specs.declared.operand.Declared.{Declared}
+use Rattle.nesc_tree.specs.declared.operand.Declarators.{Declarators}
 use Rattle.nesc_tree.specs.declared.operand.Width.{Width}
 use Rattle.nesc_tree.specs.declared.operand.Width.TheVariants as w
 use Rattle.nesc_tree.specs.Level as level
@@ -143,36 +149,46 @@ width_of s.Length = Form.seq (λ t _. length_of t) (one s.Length) (optional s.In
 width_of s.Int = map (λ _. w.Short) (one s.Int)
 width_of _ = Form.none
 
--- a base with the height of the definition in it
-abbrev pub plain : Base → ℕ → CastType
-plain base height = record { ty = record { base = base; stars = 0; dims = []; is_const = false }; height = height }
+-- a base with the height of the definition in it and the place of its first token
+abbrev pub plain : Base → ℕ → Pos → CastType
+plain base height from = record { ty = record { base = base; stars = 0; dims = []; is_const = false }; from = from; height = height }
+
+-- `signed` alone is `signed int`
+abbrev pub width : Form Width
+width = Form.maybe (Form.by width_of) w.Short
 
 abbrev pub signed_base : Form CastType
-signed_base = Form.seq (λ t n. plain (b.Int (integer (is_unsigned t) n)) 0) (one s.Signedness) (Form.maybe (Form.by width_of) w.Short)
+signed_base = Form.seq (λ t n. plain (b.Int (integer (is_unsigned t) n)) 0 t.pos) (one s.Signedness) width
 
-abbrev pub plain_base : Sort → Form CastType
-plain_base x = map (λ n. plain (b.Int (integer false n)) 0) (width_of x)
+abbrev pub char_base : Form CastType
+char_base = map (λ t. plain (b.Int (integer false w.Char)) 0 t.pos) (one s.CharType)
+
+abbrev pub length_base : Form CastType
+length_base = Form.seq (λ t _. plain (b.Int (integer false (length_of t))) 0 t.pos) (one s.Length) (optional s.Int)
+
+abbrev pub int_base : Form CastType
+int_base = map (λ t. plain (b.Int (integer false w.Short)) 0 t.pos) (one s.Int)
 
 abbrev pub fields : Form Fields
 fields = Form.sub Phrase.fields (λ f. f)
 
-abbrev pub struct_type : Option (List ℕ) → Option Fields → CastType
-struct_type tag None = plain (b.Struct tag None) 0
-struct_type tag (Some f) = plain (b.Struct tag (Some f.params)) f.height
+abbrev pub struct_type : Option (List ℕ) → Option Fields → Token → CastType
+struct_type tag None o = plain (b.Struct tag None) 0 o.pos
+struct_type tag (Some f) o = plain (b.Struct tag (Some f.groups)) f.height o.pos
 
-abbrev pub tagged_struct : Form CastType
-tagged_struct = Form.seq (λ t f. struct_type (Some t.text) f) name (Form.maybe (map Some fields) None)
+abbrev pub some_fields : Form (Option Fields)
+some_fields = Form.maybe (map Some fields) None
+
+abbrev pub tagged_struct : Form (Token → CastType)
+tagged_struct = Form.seq (λ t f o. struct_type (Some t.text) f o) name some_fields
+
+abbrev pub untagged_struct : Form (Token → CastType)
+untagged_struct = map (λ f o. struct_type None (Some f) o) fields
 
 -- behind `struct`
-abbrev pub struct_of : Sort → Form CastType
-struct_of s.LBrace = map (λ f. struct_type None (Some f)) fields
+abbrev pub struct_of : Sort → Form (Token → CastType)
+struct_of s.LBrace = untagged_struct
 struct_of _ = tagged_struct
-
--- the constants of an enum, their greatest height, and whether a comma is behind the last one
-pub record Items : Type 0 where
-  pub items : List EnumItem
-  pub height : ℕ
-  pub ended : Bool
 
 abbrev pub value_of : Option Operand → Option Expr
 value_of None = None
@@ -182,15 +198,21 @@ abbrev pub height_of : Option Operand → ℕ
 height_of None = 0
 height_of (Some a) = a.height
 
-abbrev pub first_item : Token → Option Operand → Items
-first_item t v = record { items = record { name = t.text; value = value_of v; pos = t.pos } ∷ []; height = height_of v; ended = false }
+abbrev pub item_of : Token → Option Operand → Item
+item_of t v = record { item = record { name = t.text; value = value_of v; pos = t.pos }; height = height_of v }
 
-abbrev pub item : Form Items
-item = Form.seq first_item name (Form.maybe (map Some (behind (one s.Assign) (expr level.conditional))) None)
+abbrev pub item_value : Form (Option Operand)
+item_value = Form.maybe (map Some (behind (one s.Assign) (expr level.conditional))) None
 
-abbrev pub more_items : Option Items → Items → Items
+abbrev pub item : Form Item
+item = Form.seq item_of name item_value
+
+abbrev pub first_item : Item → Items
+first_item m = record { items = m.item ∷ []; height = m.height; ended = false }
+
+abbrev pub more_items : Option Item → Items → Items
 more_items None l = record { items = l.items; height = l.height; ended = true }
-more_items (Some m) l = record { items = l.items ++ m.items; height = max l.height m.height; ended = false }
+more_items (Some m) l = record { items = l.items ++ (m.item ∷ []); height = max l.height m.height; ended = false }
 
 abbrev pub is_comma : Sort → Bool
 is_comma s.Comma = true
@@ -199,49 +221,88 @@ is_comma _ = false
 abbrev pub not_ended : Items → Sort → Bool
 not_ended l x = if l.ended then false else true
 
+abbrev pub some_item : Form (Option Item)
+some_item = Form.maybe (map Some item) None
+
+abbrev pub another_item : Form (Items → Items)
+another_item = map more_items (behind (one s.Comma) some_item)
+
 abbrev pub items : Form Items
-items = Form.loop is_comma not_ended (λ _. 0) item (λ _. map more_items (behind (one s.Comma) (Form.maybe (map Some item) None)))
+items = Form.loop is_comma not_ended (λ _. 0) (map first_item item) (λ _. another_item)
 
 abbrev pub braced_items : Form Items
 braced_items = behind (one s.LBrace) (before items (one s.RBrace))
 
-abbrev pub enum_type : Option (List ℕ) → Option Items → CastType
-enum_type tag None = plain (b.Enum tag None) 0
-enum_type tag (Some l) = plain (b.Enum tag (Some l.items)) l.height
+abbrev pub enum_type : Option (List ℕ) → Option Items → Token → CastType
+enum_type tag None o = plain (b.Enum tag None) 0 o.pos
+enum_type tag (Some l) o = plain (b.Enum tag (Some l.items)) l.height o.pos
 
-abbrev pub tagged_enum : Form CastType
-tagged_enum = Form.seq (λ t l. enum_type (Some t.text) l) name (Form.maybe (map Some braced_items) None)
+abbrev pub some_items : Form (Option Items)
+some_items = Form.maybe (map Some braced_items) None
+
+abbrev pub tagged_enum : Form (Token → CastType)
+tagged_enum = Form.seq (λ t l o. enum_type (Some t.text) l o) name some_items
+
+abbrev pub untagged_enum : Form (Token → CastType)
+untagged_enum = map (λ l o. enum_type None (Some l) o) braced_items
 
 -- behind `enum`
-abbrev pub enum_of : Sort → Form CastType
-enum_of s.LBrace = map (λ l. enum_type None (Some l)) braced_items
+abbrev pub enum_of : Sort → Form (Token → CastType)
+enum_of s.LBrace = untagged_enum
 enum_of _ = tagged_enum
+
+abbrev pub void_base : Form CastType
+void_base = map (λ t. plain b.Void 0 t.pos) (one s.Void)
+
+abbrev pub named_base : Form CastType
+named_base = map (λ t. plain (b.Named t.text) 0 t.pos) (one s.TypeName)
+
+abbrev pub struct_base : Form CastType
+struct_base = with (one s.Struct) (Form.by struct_of)
+
+abbrev pub enum_base : Form CastType
+enum_base = with (one s.Enum) (Form.by enum_of)
 
 -- a type by its first token
 abbrev pub base_of : Sort → Form CastType
-base_of s.Void = map (λ _. plain b.Void 0) (one s.Void)
+base_of s.Void = void_base
 base_of s.Signedness = signed_base
-base_of s.CharType = plain_base s.CharType
-base_of s.Length = plain_base s.Length
-base_of s.Int = plain_base s.Int
-base_of s.TypeName = map (λ t. plain (b.Named t.text) 0) (one s.TypeName)
-base_of s.Struct = behind (one s.Struct) (Form.by struct_of)
-base_of s.Enum = behind (one s.Enum) (Form.by enum_of)
+base_of s.CharType = char_base
+base_of s.Length = length_base
+base_of s.Int = int_base
+base_of s.TypeName = named_base
+base_of s.Struct = struct_base
+base_of s.Enum = enum_base
 base_of _ = Form.none
 
 abbrev pub is_qualifier : Sort → Bool
 is_qualifier s.Qualifier = true
 is_qualifier _ = false
 
--- whether `const` is among them
-abbrev pub qualifiers : Form Bool
-qualifiers = Form.many is_qualifier false (λ _. map (λ t so_far. so_far || is_const t) (one s.Qualifier))
+abbrev pub first_of : {A : Type 0} → Option A → A → A
+first_of None b = b
+first_of (Some a) b = a
 
-abbrev pub type_of : Bool → CastType → Bool → CastType
-type_of first t second = record { ty = record { base = t.ty.base; stars = t.ty.stars; dims = t.ty.dims; is_const = first || second }; height = t.height }
+abbrev pub more_qualifiers : Token → Qualifiers → Qualifiers
+more_qualifiers t q = record { has_const = q.has_const || is_const t; from = Some (first_of q.from t.pos) }
 
-abbrev pub qualified : Form (Bool → CastType)
-qualified = Form.seq (λ t second first. type_of first t second) (Form.by base_of) qualifiers
+abbrev pub no_qualifiers : Qualifiers
+no_qualifiers = record { has_const = false; from = None }
+
+abbrev pub another_qualifier : Form (Qualifiers → Qualifiers)
+another_qualifier = map more_qualifiers (one s.Qualifier)
+
+abbrev pub qualifiers : Form Qualifiers
+qualifiers = Form.many is_qualifier no_qualifiers (λ _. another_qualifier)
+
+abbrev pub type_of : Qualifiers → CastType → Qualifiers → CastType
+type_of first t second = record { ty = record { base = t.ty.base; stars = t.ty.stars; dims = t.ty.dims; is_const = first.has_const || second.has_const }; from = first_of first.from t.from; height = t.height }
+
+abbrev pub base : Form CastType
+base = Form.by base_of
+
+abbrev pub qualified : Form (Qualifiers → CastType)
+qualified = Form.seq (λ t second first. type_of first t second) base qualifiers
 
 abbrev pub type_form : Form CastType
 type_form = with qualifiers qualified
@@ -251,18 +312,13 @@ abbrev pub stars : Form ℕ
 stars = Form.maybe (Form.sub Phrase.pointers (λ n. n)) 0
 
 abbrev pub pointer : CastType → ℕ → CastType
-pointer t n = record { ty = record { base = t.ty.base; stars = n; dims = t.ty.dims; is_const = t.ty.is_const }; height = max t.height n }
+pointer t n = record { ty = record { base = t.ty.base; stars = n; dims = t.ty.dims; is_const = t.ty.is_const }; from = t.from; height = max t.height n }
 
 -- a type and its stars
 abbrev pub cast_type : Form CastType
 cast_type = Form.seq pointer type_form stars
 
 -- ---- fields (C99 6.7.2.1)
-
--- the dimensions of an array, and their greatest height
-pub record Dims : Type 0 where
-  pub exprs : List Expr
-  pub height : ℕ
 
 abbrev pub more_dims : Operand → Dims → Dims
 more_dims a l = record { exprs = l.exprs ++ (a.expr ∷ []); height = max l.height a.height }
@@ -274,44 +330,57 @@ abbrev pub is_bracket : Sort → Bool
 is_bracket s.LBracket = true
 is_bracket _ = false
 
+abbrev pub another_dim : Form (Dims → Dims)
+another_dim = map more_dims (behind (one s.LBracket) (before (expr level.conditional) (one s.RBracket)))
+
 abbrev pub dims : Form Dims
-dims = Form.many is_bracket no_dims (λ _. map more_dims (behind (one s.LBracket) (before (expr level.conditional) (one s.RBracket))))
+dims = Form.many is_bracket no_dims (λ _. another_dim)
 
-pub record Declarator : Type 0 where
-  pub stars : ℕ
-  pub name : Token
-  pub dims : Dims
+abbrev pub declared : Token → Dims → ℕ → Declared
+declared t l n = record { declarator = record { stars = n; name = t.text; dims = l.exprs }; height = max n l.height }
 
-abbrev pub named_dims : Form (ℕ → Declarator)
-named_dims = Form.seq (λ t l n. record { stars = n; name = t; dims = l }) name dims
+abbrev pub named_dims : Form (ℕ → Declared)
+named_dims = Form.seq declared name dims
 
-abbrev pub declarator : Form Declarator
+abbrev pub declarator : Form Declared
 declarator = with stars named_dims
 
-abbrev pub declarators : Form (List Declarator)
-declarators = Form.loop is_comma (λ _ _. true) (λ _. 0) (map (λ d. d ∷ []) declarator) (λ _. map (λ d ds. ds ++ (d ∷ [])) (behind (one s.Comma) declarator))
+abbrev pub first_declarator : Declared → Declarators
+first_declarator d = record { list = d.declarator ∷ []; height = d.height }
 
-abbrev pub field_of : CastType → Declarator → Param
-field_of t d = record { ty = record { base = t.ty.base; stars = d.stars; dims = d.dims.exprs; is_const = t.ty.is_const }; name = Some d.name.text }
+abbrev pub more_declarators : Declared → Declarators → Declarators
+more_declarators d l = record { list = l.list ++ (d.declarator ∷ []); height = max l.height d.height }
 
-abbrev pub fields_of : CastType → List Declarator → Fields
-fields_of t [] = record { params = []; height = t.height }
-fields_of t (d ∷ ds) = let rest = fields_of t ds in record { params = field_of t d ∷ rest.params; height = max (max d.stars d.dims.height) rest.height }
+abbrev pub another_declarator : Form (Declarators → Declarators)
+another_declarator = map more_declarators (behind (one s.Comma) declarator)
 
-abbrev pub field : Form Fields
-field = Form.seq fields_of type_form (before declarators (one s.Semi))
+abbrev pub declarators : Form Declarators
+declarators = Form.loop is_comma (λ _ _. true) (λ _. 0) (map first_declarator declarator) (λ _. another_declarator)
 
-abbrev pub more_fields : Fields → Fields → Fields
-more_fields f l = record { params = l.params ++ f.params; height = max l.height f.height }
+-- the type stands once, however many fields it has
+abbrev pub field_group : CastType → Declarators → Grouped
+field_group t l = record { group = roll-FieldGroup (record { ty = t.ty; fields = l.list }); height = max t.height l.height }
+
+abbrev pub field : Form Grouped
+field = Form.seq field_group type_form (before declarators (one s.Semi))
+
+abbrev pub more_fields : Grouped → Fields → Fields
+more_fields f l = record { groups = l.groups ++ (f.group ∷ []); height = max l.height f.height }
 
 abbrev pub no_fields : Fields
-no_fields = record { params = []; height = 0 }
+no_fields = record { groups = []; height = 0 }
 
 abbrev pub definition : Fields → Fields
-definition l = record { params = l.params; height = suc l.height }
+definition l = record { groups = l.groups; height = suc l.height }
+
+abbrev pub another_field : Form (Fields → Fields)
+another_field = map more_fields field
+
+abbrev pub all_fields : Form Fields
+all_fields = Form.many begins_type no_fields (λ _. another_field)
 
 abbrev pub struct_fields : Form Fields
-struct_fields = behind (one s.LBrace) (before (map definition (Form.many begins_type no_fields (λ _. map more_fields field))) (one s.RBrace))
+struct_fields = behind (one s.LBrace) (before (map definition all_fields) (one s.RBrace))
 
 -- ---- expressions
 

@@ -9,7 +9,8 @@ use Rattle.nesc_tree.specs.declared.tree.Expr.TheVariants as e
 use Rattle.nesc_tree.specs.declared.tree.Base.{Base}
 use Rattle.nesc_tree.specs.declared.tree.Base.TheVariants as b
 use Rattle.nesc_tree.specs.declared.tree.EnumItem.{EnumItem}
-use Rattle.nesc_tree.specs.declared.tree.Param.{Param}
+use Rattle.nesc_tree.specs.declared.tree.Declarator.{Declarator}
+use Rattle.nesc_tree.specs.declared.tree.FieldGroup.{roll-FieldGroup}
 use Rattle.nesc_tree.specs.declared.tree.TypeSpec.{TypeSpec}
 use Rattle.nesc_tree.specs.declared.tree.InOp.TheVariants as op
 use Rattle.nesc_tree.specs.declared.tree.PreOp.TheVariants as pre
@@ -60,9 +61,9 @@ names = (codes "t", true) ∷ []
 abbrev pub spec : Base → ℕ → TypeSpec
 spec base stars = record { base = base; stars = stars; dims = []; is_const = false }
 
--- a field, and a constant of an enum
-abbrev pub field : List ℕ → ℕ → List Expr → Param
-field text stars dims = record { ty = record { base = b.Named (codes "t"); stars = stars; dims = dims; is_const = false }; name = Some text }
+-- a declarator, and a constant of an enum
+abbrev pub declarator : List ℕ → ℕ → List Expr → Declarator
+declarator text stars dims = record { stars = stars; name = text; dims = dims }
 
 abbrev pub item : List ℕ → Option Expr → EnumItem
 item text value = record { name = text; value = value; pos = start }
@@ -101,7 +102,7 @@ pub record WorkedRows : Type 0 where
   pub cast_to_pointer : Reads (opening ∷ word (codes "unsigned") ∷ word (codes "long") ∷ star ∷ closing ∷ a ∷ []) (e.Cast (spec (b.Int int.U32) 1) name start)
   -- sizeof (struct { t *a, t[a]; }), sizeof (const enum a { a = a, t, })
   pub size_of_struct : Reads (word (codes "sizeof") ∷ opening ∷ word (codes "struct") ∷ sign (codes "{") ∷ t ∷ star ∷ a ∷ sign (codes ",") ∷ t ∷ sign (codes "[") ∷ a ∷ sign (codes "]") ∷ sign (codes ";") ∷ sign (codes "}") ∷ closing ∷ [])
-      (e.SizeOfType (spec (b.Struct None (Some (field (codes "a") 1 [] ∷ field (codes "t") 0 (name ∷ []) ∷ []))) 0) start)
+      (e.SizeOfType (spec (b.Struct None (Some (roll-FieldGroup (record { ty = spec (b.Named (codes "t")) 0; fields = declarator (codes "a") 1 [] ∷ declarator (codes "t") 0 (name ∷ []) ∷ [] }) ∷ []))) 0) start)
   pub size_of_enum : Reads (word (codes "sizeof") ∷ opening ∷ word (codes "const") ∷ word (codes "enum") ∷ a ∷ sign (codes "{") ∷ a ∷ gets ∷ a ∷ sign (codes ",") ∷ t ∷ sign (codes ",") ∷ sign (codes "}") ∷ closing ∷ [])
       (e.SizeOfType (record { base = b.Enum (Some (codes "a")) (Some (item (codes "a") (Some name) ∷ item (codes "t") None ∷ [])); stars = 0; dims = []; is_const = true }) start)
   -- sizeof (t), sizeof (a) [ a ], sizeof a

@@ -1,6 +1,6 @@
 //! Trees of declarations and statements.
 
-use crate::tree::{Expr, Param, TypeSpec};
+use crate::tree::{Declarator, Expr, Param, TypeSpec};
 use nm_base::{Boxed, List, Name, Pos};
 
 #[derive(Drop)]
@@ -13,17 +13,27 @@ pub enum Decl {
         pos: Pos,
     },
     TypeOnly(TypeSpec, Pos),
-    Var {
-        name: Name,
-        ty: TypeSpec,
-        norace: bool,
-        init: Option<Init>,
-        pos: Pos,
-    },
+    Vars(VarGroup),
     Func {
         head: FuncHead,
         body: Option<Stmt>,
     },
+}
+
+/// Variables that share a type, which has no stars and no dimensions of its own.
+#[derive(Drop)]
+pub struct VarGroup {
+    pub ty: TypeSpec,
+    pub norace: bool,
+    pub vars: List<Variable>,
+}
+
+/// A variable with the position of its name.
+#[derive(Drop)]
+pub struct Variable {
+    pub declarator: Declarator,
+    pub init: Option<Init>,
+    pub pos: Pos,
 }
 
 /// The head of a function, of a task, or of a command or event `name.item`, with the parameter of its bracket.
@@ -78,10 +88,8 @@ pub enum Stmt {
     If(Expr, Boxed<Stmt>, Option<Boxed<Stmt>>, Pos),
     While(Expr, Boxed<Stmt>, Pos),
     DoWhile(Boxed<Stmt>, Expr, Pos),
-    /// `vars` is empty where it declares nothing, and `start` is None where it does.
     For {
-        vars: List<Decl>,
-        start: Option<Expr>,
+        start: ForStart,
         test: Option<Expr>,
         step: Option<Expr>,
         body: Boxed<Stmt>,
@@ -94,4 +102,12 @@ pub enum Stmt {
     Continue(Pos),
     Return(Option<Expr>, Pos),
     Local(Boxed<Decl>, Pos),
+}
+
+/// What stands before the first `;` of a `for`.
+#[derive(Drop)]
+pub enum ForStart {
+    Nothing,
+    Eval(Expr),
+    Vars(VarGroup),
 }

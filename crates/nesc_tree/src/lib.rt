@@ -17,10 +17,17 @@ pub use components::{
     ConfLine, Config, Elem, GenericArg, GenericParam, Head, Interface, Module, Part, Sig, Unit,
     WireEnd,
 };
-pub use declarations::{Attr, AttrArg, Decl, FuncHead, FuncKind, Init, Stmt};
+pub use declarations::{
+    Attr, AttrArg, Decl, ForStart, FuncHead, FuncKind, Init, Stmt, VarGroup, Variable,
+};
 pub use laws::{longest_chooses_nothing, one_tree, probe_tells, reads_the_reach};
 pub use names::TypeNames;
-pub use operand::{Arguments, CastType, Fields, Operand, Width};
+pub use operand::{
+    Arguments, CastType, Declarators, Declared, Dims, Fields, Grouped, Item, Items, Operand,
+    Qualifiers, Width,
+};
 pub use rows::worked_rows;
 pub use sorts::{Sort, ahead, same_sort, sort_of};
-pub use tree::{Base, EnumItem, Expr, InOp, Param, PostOp, PreOp, TypeSpec};
+pub use tree::{
+    Base, Declarator, EnumItem, Expr, FieldGroup, InOp, Param, PostOp, PreOp, TypeSpec,
+};

@@ -96,17 +96,26 @@ pub enum Base {
     Int(IntType),
     Named(Name),
     /// The tag, and the fields where it is a definition.
-    Struct(Option<Name>, Option<List<Param>>),
+    Struct(Option<Name>, Option<List<FieldGroup>>),
     /// The tag, and the constants where it is a definition.
     Enum(Option<Name>, Option<List<EnumItem>>),
 }
 
-/// A parameter of a function, or a field of a struct.
+/// Fields of a struct that share a type, which has no stars and no dimensions of its own.
 #[derive(Drop)]
 #[cycle(tree)]
-pub struct Param {
+pub struct FieldGroup {
     pub ty: TypeSpec,
-    pub name: Option<Name>,
+    pub fields: List<Declarator>,
+}
+
+/// A declared name, with the pointers and the dimensions of an array that stand beside it.
+#[derive(Drop)]
+#[cycle(tree)]
+pub struct Declarator {
+    pub stars: u8,
+    pub name: Name,
+    pub dims: List<Expr>,
 }
 
 #[derive(Drop)]
@@ -115,4 +124,11 @@ pub struct EnumItem {
     pub name: Name,
     pub value: Option<Expr>,
     pub pos: Pos,
+}
+
+/// A parameter of a function.
+#[derive(Drop)]
+pub struct Param {
+    pub ty: TypeSpec,
+    pub name: Option<Name>,
 }
