@@ -1,34 +1,10 @@
 //! How statements are left.
 
-ghost use Rattle.std.specs.Prelude.{◌≡◌};
-ghost use Rattle.core_meaning.specs.Flow as spec;
-
 /// How a statement is left.
 #[derive(Clone, Copy, PartialEq, Eq, Debug)]
-pub(crate) enum Flow {
+pub enum Flow {
     On,
     Broke,
     Continued,
     Gave(i64),
-}
-
-/// A switch takes the breaks of its statements.
-pub(crate) fn out_of_switch(flow: Flow) -> Flow
-    ensures { result ≡ spec.out_of_switch flow }
-{
-    match flow {
-        Flow::On | Flow::Broke => Flow::On,
-        Flow::Continued => Flow::Continued,
-        Flow::Gave(v) => Flow::Gave(v),
-    }
-}
-
-/// What a body gives back: 0 where it ends without a value.
-pub(crate) fn result(flow: Flow) -> i64
-    ensures { result ≡ spec.result flow }
-{
-    match flow {
-        Flow::On | Flow::Broke | Flow::Continued => 0,
-        Flow::Gave(v) => v,
-    }
 }

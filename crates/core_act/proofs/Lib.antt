@@ -1,0 +1,5 @@
+pub mod Telling
+pub mod Bytes
+pub mod PartBounds
+pub mod Sized
+pub mod WellFormedHolds

@@ -1,0 +1,4 @@
+pub mod Actions
+pub mod Told
+pub mod Evaluable
+pub mod Scopes
