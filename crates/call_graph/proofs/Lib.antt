@@ -1,0 +1,15 @@
+pub mod Lists
+pub mod Rising
+pub mod Least
+pub mod SameCalls
+pub mod Chains
+pub mod ViewLists
+pub mod Reaching
+pub mod Settling
+pub mod Searching
+pub mod Tables
+pub mod Cycles
+pub mod Best
+pub mod Refusing
+pub mod Walking
+pub mod Syncs

@@ -1,0 +1,10 @@
+pub mod Uses
+pub mod Paths
+pub mod Least
+pub mod View
+pub mod Graph
+pub mod Reach
+pub mod Ranks
+pub mod Search
+pub mod Refusals
+pub mod Shortest
