@@ -1,0 +1,4 @@
+pub mod Report
+pub mod Bare
+pub mod Computed
+pub mod Rows
