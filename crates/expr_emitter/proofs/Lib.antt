@@ -1,0 +1,4 @@
+pub mod Offsets
+pub mod Typed
+pub mod Labels
+pub mod Values

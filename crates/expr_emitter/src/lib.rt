@@ -1,0 +1,25 @@
+//! The emitter: expressions and places written as middle code.
+#![tactic(auto)]
+
+mod accesses;
+mod conversions;
+mod elements;
+mod expressions;
+mod kinds;
+mod laws;
+mod levels;
+mod lowering;
+mod numbers;
+mod operators;
+mod pieces;
+mod put;
+mod rows;
+mod scope;
+mod types;
+
+pub use expressions::emit_expr;
+pub use laws::{labels_differ, values_below};
+pub use lower_expr::{Regs, Spot};
+pub use lowering::{first_label, lower_expr};
+pub use rows::{form_rows, operator_rows};
+pub use scope::Scope;
