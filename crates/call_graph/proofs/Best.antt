@@ -1,5 +1,5 @@
 -- The least of the chains from each body is the least of all.
-use Rattle.std.proofs.Common.{◌≡◌, ℕ, zero, suc, ◌+◌, ◌<◌, ◌≤◌, Bool, true, false, if◌then◌else◌, ◌⊎◌, inl, inr, List, [], ◌∷◌, length, Option, Some, None, refl, sym, subst, ap, arith, ◌∙◌}
+use Rattle.std.proofs.Common.{◌≡◌, ℕ, zero, suc, ◌+◌, ◌<◌, ◌≤◌, Bool, true, false, if◌then◌else◌, ◌⊎◌, inl, inr, List, [], ◌∷◌, length, Option, Some, None, refl, sym, subst, ap, arith}
 use Rattle.std.specs.Prelude.{nat_lt}
 use Rattle.std.proofs.lemmas.Bool.Decides.{nat_tests}
 use Rattle.call_graph.specs.Paths.{IsBelow, IsNoWorse}
@@ -128,3 +128,5 @@ module _ (P Q : List ℕ → Type 0) where
 
 pub best_next : (chain : ℕ → Option (List ℕ)) (n : ℕ) → best_of chain (n + 1) ≡ shorter_of (best_of chain n) (chain n)
 best_next chain n = let e : n + 1 ≡ suc n = omega arith in ap (best_of chain) e
+
+pub ruleset numbers = (best_next)

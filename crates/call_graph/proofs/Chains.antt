@@ -7,9 +7,9 @@ use Rattle.std.proofs.lemmas.Option.{none-some, same_Some, slice_get_within}
 use Rattle.std.proofs.lemmas.List.Elements.{All-head, All-tail}
 use Rattle.nesc_core.specs.Plain.{Body, Program}
 use Rattle.nesc_core.specs.Calls.{stmt_calls, HasNoCycle}
-use Rattle.call_graph.specs.Uses.{Use, Access, Calls, stmt_uses, uses_of, uses}
-use Rattle.call_graph.specs.Paths.{IsIn, callee, bare_callee, callees, bare_callees, Leads, IsPath, IsLeast}
-use Rattle.call_graph.specs.Least.{can, path_of, first_from, path_at, least_path, IsOne}
+use Rattle.call_graph.specs.Uses.{Use, Access, Calls, uses_of, uses}
+use Rattle.call_graph.specs.Paths.{IsIn, callee, bare_callee, callees, bare_callees, Leads, IsLeast}
+use Rattle.call_graph.specs.Least.{can, first_from, path_at, least_path, IsOne}
 use Rattle.call_graph.proofs.Lists.{nat_either, found_any, flat_found, in_flat}
 use Rattle.call_graph.proofs.Least.{ends_can, is_least}
 use Rattle.call_graph.proofs.SameCalls.{stmt_same}

@@ -13,3 +13,4 @@ pub mod Best
 pub mod Refusing
 pub mod Walking
 pub mod Syncs
+pub mod Graphs

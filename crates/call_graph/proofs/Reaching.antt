@@ -2,7 +2,7 @@
 use Rattle.std.proofs.Common.{◌≡◌, ℕ, zero, suc, ◌+◌, ◌*◌, ◌<◌, ◌≤◌, Bool, true, false, if◌then◌else◌, ◌⊎◌, inl, inr, List, [], ◌∷◌, ◌++◌, length, length-append, length-take, append-nil, ◌-◌, min, take, replicate, drop, get_or, refl, sym, subst, ap, arith, ◌∙◌}
 use Rattle.std.specs.Prelude.{slice_index_or, slice_set}
 use Rattle.std.proofs.lemmas.Bool.{false≢true}
-use Rattle.call_graph.specs.Paths.{IsIn, Leads, IsPath}
+use Rattle.call_graph.specs.Paths.{IsIn, Leads}
 use Rattle.call_graph.specs.Graph.{row_at, IsMarked, IsReached, AreReached}
 use Rattle.call_graph.specs.Reach.{waiting_with, all_marked, all_waiting}
 use Rattle.call_graph.proofs.Lists.{in_either, in_left, in_right}

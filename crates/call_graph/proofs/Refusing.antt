@@ -1,26 +1,24 @@
 -- A program without a rank for each body has a cycle, and the least of the chains that are found is the least cycle.
-use Rattle.std.proofs.Common.{◌≡◌, ℕ, zero, suc, ◌+◌, ◌<◌, ◌≤◌, ◌==◌, Bool, true, false, if◌then◌else◌, ◌⊎◌, inl, inr, List, [], ◌∷◌, ◌++◌, length, get_or, map, All, Option, Some, None, refl, sym, subst, ap, arith, ◌∙◌, eqb-true}
+use Rattle.std.proofs.Common.{◌≡◌, ℕ, zero, suc, ◌<◌, ◌≤◌, ◌==◌, Bool, true, false, if◌then◌else◌, ◌⊎◌, inl, inr, List, [], ◌∷◌, ◌++◌, length, get_or, All, Option, Some, None, refl, sym, subst, ap, arith, ◌∙◌, eqb-true, append_assoc}
 use Rattle.std.specs.Prelude.{slice_get, option_map}
 use Rattle.std.specs.List.{list_all, flat_map}
 use Rattle.std.proofs.lemmas.Bool.{false≢true}
 use Rattle.std.proofs.lemmas.Bool.Decides.{nat_tests}
-use Rattle.std.proofs.lemmas.Option.{none-some, same_Some, slice_get_within}
-use Rattle.nm_base.specs.declared.pos.Pos.{Pos}
+use Rattle.std.proofs.lemmas.Option.{none-some, slice_get_within}
 use Rattle.nesc_core.specs.Plain.{Body, Program}
 use Rattle.nesc_core.specs.Calls.{stmt_calls, HasNoCycle}
 use Rattle.call_graph.specs.Uses.{Use, Access, Calls, uses, uses_of}
-use Rattle.call_graph.specs.Paths.{IsIn, below, callee, callees, Leads, IsPath, IsNoWorse, IsLeast}
+use Rattle.call_graph.specs.Paths.{IsIn, callee, callees, Leads, IsPath, IsNoWorse, IsLeast}
 use Rattle.call_graph.specs.Least.{least_path, IsOne}
-use Rattle.call_graph.specs.Graph.{row_at}
+use Rattle.call_graph.specs.Graph.{IsCounted, row_at}
 use Rattle.call_graph.specs.Ranks.{rank_of, is_some, AreRanks}
-use Rattle.call_graph.specs.Search.{is_end_in}
 use Rattle.call_graph.specs.Shortest.{best_of, chain_from}
-use Rattle.call_graph.specs.Refusals.{call_place, last_place, IsCycle, IsRecursion}
-use Rattle.call_graph.proofs.Lists.{nat_either, flat_found}
+use Rattle.call_graph.specs.Refusals.{call_place, last_place, IsCycleBy, IsCycle, IsCycleOf}
+use Rattle.call_graph.proofs.Lists.{nat_either}
 use Rattle.call_graph.proofs.Chains.{path_is_least, no_path}
 use Rattle.call_graph.proofs.SameCalls.{stmt_same}
 use Rattle.call_graph.proofs.Cycles.{Cycle, a_cycle}
-use Rattle.call_graph.proofs.Best.{IsFrom, IsChainFrom, IsAnswer, answer}
+use Rattle.call_graph.proofs.Best.{IsChainFrom, IsAnswer, answer}
 
 -- ---- all have a rank
 
@@ -73,8 +71,7 @@ module _ (p : Program) (table : List (List ℕ)) (is_table : row_at table ≡ ca
 
 module _ (table : List (List ℕ)) where
   abbrev pub AnyCycle : List ℕ → Type 0
-  AnyCycle [] = ⊥
-  AnyCycle (f ∷ rest) = IsPath (row_at table f) (row_at table) rest f
+  AnyCycle = IsCycleBy (row_at table)
 
   -- of at most as many calls as there are bodies
   abbrev ShortCycle : List ℕ → Type 0
@@ -168,3 +165,48 @@ last_two p [] f g = refl
 last_two p (x ∷ []) f g = refl
 last_two p (x ∷ y ∷ []) f g = last_two p (y ∷ []) f g
 last_two p (x ∷ y ∷ z ∷ xs) f g = last_two p (y ∷ z ∷ xs) f g
+
+-- ---- the steps of the code
+
+pub all_ranked : (table : List (List ℕ)) (ranks seen : List (Option ℕ)) → AreRanks table ranks → seen ≡ ranks → (t : Bool) → t ≡ list_all is_some seen → t ≡ true → IsCycleOf table None
+all_ranked table ranks seen are seen_is t t_is all = (ranks, are, ap (λ rs. list_all is_some rs) (sym seen_is) ∙ sym t_is ∙ all)
+
+pub the_cycle : (table : List (List ℕ)) → ((f g : ℕ) → IsIn g (row_at table f) → g < length table) → (ranks seen : List (Option ℕ)) → AreRanks table ranks → seen ≡ ranks
+    → (t : Bool) → t ≡ list_all is_some seen → t ≡ false
+    → (o : Option (List ℕ)) → o ≡ best_of (λ f. chain_from table (λ g. g == f) f) (length table) → IsCycleOf table o
+the_cycle table named ranks seen are seen_is t t_is some_not o o_is =
+    let none : list_all is_some ranks ≡ false = ap (λ rs. list_all is_some rs) (sym seen_is) ∙ sym t_is ∙ some_not in
+    let f = some_none_at ranks none in
+    let found = cycle_found table (a_cycle table ranks are named f.0 (omega (arith, f.1, are.size)) f.2) o o_is in
+    subst (λ x. IsCycleOf table x) (sym found.1) found.2
+
+pub ranks_give : (p : Program) (table : List (List ℕ)) → row_at table ≡ callees p → length table ≡ length p.bodies → (o : Option (List ℕ)) → IsCycleOf table o → o ≡ None → HasNoCycle p
+ranks_give p table is_table size o is none = given (subst (λ x. IsCycleOf table x) none is)
+  where
+    given : IsCycleOf table None → HasNoCycle p
+    given has = no_cycle p table is_table size has.0 has.1 has.2
+
+pub cycle_is : (p : Program) (table : List (List ℕ)) → row_at table ≡ callees p → (o : Option (List ℕ)) (path : List ℕ) → IsCycleOf table o → o ≡ Some path → IsLeast (IsCycle p) path
+cycle_is p table is_table o path is some = subst (λ steps. IsLeast (IsCycleBy steps) path) is_table (subst (λ x. IsCycleOf table x) some is)
+
+-- a cycle has a last call
+pub cycle_place : (p : Program) (path : List ℕ) → IsCycle p path → last_place p path ≡ None → ⊥
+cycle_place p [] cycle none = cycle
+cycle_place p (f ∷ []) cycle none = cycle
+cycle_place p (f ∷ g ∷ rest) cycle none = place_exists p f g f rest cycle.0 cycle.1 none
+
+pub named_in : (p : Program) (table : List (List ℕ)) → row_at table ≡ callees p → length table ≡ length p.bodies → IsCounted p
+    → (f g : ℕ) → IsIn g (row_at table f) → g < length table
+named_in p table is_table size counted f g there = omega (arith, counted.named f g (subst (λ steps. IsIn g (steps f)) is_table there), size)
+
+pub last_is : (p : Program) (path front pre : List ℕ) (from to : ℕ) → path ≡ front ++ to ∷ [] → front ≡ pre ++ from ∷ [] → call_place (uses p from) to ≡ last_place p path
+last_is p path front pre from to path_is front_is =
+    sym (ap (last_place p) (path_is ∙ ap (λ xs. xs ++ to ∷ []) front_is ∙ append_assoc pre (from ∷ []) (to ∷ [])) ∙ last_two p pre from to)
+
+pub last_none : (p : Program) (path : List ℕ) → length path ≡ 0 → None ≡ last_place p path
+last_none p [] none = refl
+last_none p (f ∷ path) none = absurd (omega (arith, none))
+
+pub last_of_one : (p : Program) (path front : List ℕ) (to : ℕ) → path ≡ front ++ to ∷ [] → length front ≡ 0 → None ≡ last_place p path
+last_of_one p path [] to is none = sym (ap (last_place p) is)
+last_of_one p path (f ∷ front) to is none = absurd (omega (arith, none))

@@ -1,19 +1,19 @@
 -- A round of the search finds the bodies that are one call further away, and the path that is gone is the least.
-use Rattle.std.proofs.Common.{◌≡◌, ℕ, zero, suc, ◌+◌, ◌<◌, ◌≤◌, ◌==◌, Bool, true, false, if◌then◌else◌, ◌⊎◌, inl, inr, List, [], ◌∷◌, ◌++◌, length, length-append, map, get_or, Option, Some, None, refl, sym, subst, ap, arith, ◌∙◌, eqb-true, append_assoc}
+use Rattle.std.proofs.Common.{◌≡◌, ℕ, zero, suc, ◌+◌, ◌<◌, ◌≤◌, ◌==◌, Bool, true, false, if◌then◌else◌, ◌⊎◌, inl, inr, List, [], ◌∷◌, ◌++◌, length, length-append, map, get_or, Option, Some, None, refl, sym, subst, ap, arith, ◌∙◌, eqb-true}
 use Rattle.std.specs.Prelude.{slice_index_or, ◌||◌}
 use Rattle.std.proofs.Math.ListN.{get_or-append}
+use Rattle.std.proofs.Math.Path.{fun_ext}
 use Rattle.std.proofs.lemmas.List.{length-map, map-append}
 use Rattle.std.proofs.Math.Seq.{get_or-append_seam}
 use Rattle.std.specs.List.{list_any}
 use Rattle.std.proofs.lemmas.Bool.{false≢true}
 use Rattle.std.proofs.lemmas.Bool.Decides.{nat_tests}
-use Rattle.std.proofs.lemmas.Option.{none-some, same_Some}
 use Rattle.call_graph.specs.Paths.{IsIn, below}
-use Rattle.call_graph.specs.Least.{least, at_most, first_from, can, onward, best, path_of, path_at, least_path}
+use Rattle.call_graph.specs.Least.{least, at_most, first_from, can}
 use Rattle.call_graph.specs.Graph.{row_at}
 use Rattle.call_graph.specs.Ranks.{rank_of}
 use Rattle.call_graph.specs.Search.{is_end_in, is_at, at_end, further, far_next, AreFar}
-use Rattle.call_graph.proofs.Lists.{nat_either, found_any, any_found}
+use Rattle.call_graph.proofs.Lists.{nat_either, found_any}
 use Rattle.call_graph.proofs.Least.{IsLeastOf, least_is}
 use Rattle.call_graph.proofs.Chains.{IsFirst, first_is}
 
@@ -229,3 +229,17 @@ pub map_next : {A : Type 0} (f : ℕ → A) (n : ℕ) → map f (below (n + 1)) 
 map_next f n = ap (map f) (below_next n) ∙ map-append f (below n) (n ∷ [])
 
 pub ruleset numbers = (map_next)
+
+-- ---- one body alone
+
+pub only_size : (f n : ℕ) (marks : List Bool) → marks ≡ map (λ g. g == f) (below n) → length marks ≡ n
+only_size f n marks is = ap length is ∙ length-map (below n) (λ g. g == f) ∙ below_length n
+
+pub only_is : (f n : ℕ) (marks : List Bool) → f < n → marks ≡ map (λ g. g == f) (below n) → is_end_in marks ≡ (λ g. g == f)
+only_is f n marks inside is = fun_ext (λ g. ap (λ xs. get_or xs g false) is ∙ at (nat_either n g))
+  where
+    at : {g : ℕ} → (n ≤ g) ⊎ (g < n) → get_or (map (λ h. h == f) (below n)) g false ≡ (g == f)
+    at {g} (inl past) =
+        past_end false (map (λ h. h == f) (below n)) g (subst (λ k. k ≤ g) (sym (length-map (below n) (λ h. h == f) ∙ below_length n)) past)
+        ∙ sym (bool_cases (g == f) (λ e. omega (arith, eqb-true g f e, past, inside)))
+    at {g} (inr less) = at_map false (λ h. h == f) n g less

@@ -1,13 +1,13 @@
 -- One body more gets a rank, and where none can get one, those without form a cycle.
-use Rattle.std.proofs.Common.{◌≡◌, ℕ, zero, suc, ◌+◌, ◌-◌, ◌<◌, ◌≤◌, Bool, true, false, if◌then◌else◌, ◌⊎◌, inl, inr, List, [], ◌∷◌, ◌++◌, length, replicate, Option, Some, None, refl, sym, subst, ap, arith, ◌∙◌}
-use Rattle.std.specs.Prelude.{◌&&◌, slice_index_or, slice_set}
+use Rattle.std.proofs.Common.{◌≡◌, ℕ, zero, suc, ◌+◌, ◌-◌, ◌<◌, ◌≤◌, Bool, true, false, ◌⊎◌, inl, inr, List, [], ◌∷◌, length, replicate, Option, Some, None, refl, sym, subst, arith, ◌∙◌}
+use Rattle.std.specs.Prelude.{◌&&◌, slice_set}
 use Rattle.std.specs.List.{list_all}
 use Rattle.std.proofs.lemmas.Bool.{false≢true}
 use Rattle.std.proofs.lemmas.Option.{none-some, same_Some}
 use Rattle.call_graph.specs.Paths.{IsIn}
 use Rattle.call_graph.proofs.Lists.{nat_either}
 use Rattle.call_graph.specs.Graph.{row_at}
-use Rattle.call_graph.specs.Ranks.{rank_of, is_some, is_none, is_ranked, is_free, can_settle, count_ranked, AreSettled, AreStuck, AreRanks}
+use Rattle.call_graph.specs.Ranks.{rank_of, is_some, is_ranked, is_free, can_settle, count_ranked, AreSettled, AreStuck, AreRanks}
 
 -- ---- one entry more
 

@@ -1,6 +1,6 @@
 -- The least chain from a handler to a command or event without `async`.
-use Rattle.std.proofs.Common.{◌≡◌, ℕ, zero, suc, ◌+◌, ◌<◌, ◌≤◌, ◌==◌, Bool, true, false, inl, inr, List, [], ◌∷◌, length, map, Option, Some, None, refl, sym, subst, ap, arith, ◌∙◌, eqb-true}
-use Rattle.std.specs.Prelude.{slice_get, slice_index_or, option_map}
+use Rattle.std.proofs.Common.{◌≡◌, ℕ, zero, suc, ◌<◌, ◌==◌, Bool, true, false, List, [], ◌∷◌, length, map, Option, Some, None, refl, sym, subst, ap, arith, ◌∙◌, eqb-true}
+use Rattle.std.specs.Prelude.{slice_get, option_map}
 use Rattle.std.specs.List.{list_any}
 use Rattle.std.proofs.lemmas.Bool.{false≢true}
 use Rattle.std.proofs.lemmas.Bool.Decides.{nat_tests}
@@ -12,11 +12,11 @@ use Rattle.call_graph.specs.Least.{least_path, IsOne}
 use Rattle.call_graph.specs.Graph.{row_at, IsMarked, IsReached, AreReached}
 use Rattle.call_graph.specs.Search.{is_end_in}
 use Rattle.call_graph.specs.Shortest.{best_of, chain_from, chain_if}
-use Rattle.call_graph.specs.Refusals.{is_sync, is_sync_body, IsSyncPath}
+use Rattle.call_graph.specs.Refusals.{is_sync, is_sync_body, IsSyncPath, last_place}
 use Rattle.call_graph.proofs.Lists.{any_found, found_any}
 use Rattle.call_graph.proofs.Chains.{path_is_least, no_path, short}
 use Rattle.call_graph.proofs.Best.{IsChainFrom, IsAnswer, answer}
-use Rattle.call_graph.proofs.Refusing.{cons_no_worse}
+use Rattle.call_graph.proofs.Refusing.{cons_no_worse, place_exists}
 
 ends_are : (bs : List Body) (g : ℕ) → is_end_in (map is_sync_body bs) g ≡ is_sync (slice_get bs g)
 ends_are [] g = refl
@@ -131,3 +131,9 @@ module _ (p : Program) where
     pub no_sync : (is_async : List Bool) → AreReached (length table) handlers (row_at table) is_async → ((f : ℕ) → IsMarked syncs f → IsMarked is_async f → ⊥)
         → (path : List ℕ) → IsSyncPath p path → ⊥
     no_sync is_async reached apart path sync = none_marked is_async reached apart path (to_table path sync)
+
+-- such a chain has a last call
+pub sync_place : (p : Program) (path : List ℕ) → IsSyncPath p path → last_place p path ≡ None → ⊥
+sync_place p [] sync none = sync
+sync_place p (f ∷ []) sync none = sync.2
+sync_place p (f ∷ g ∷ rest) sync none = place_exists p f g sync.1 rest sync.2.0 sync.2.1 none

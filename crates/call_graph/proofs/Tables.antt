@@ -10,7 +10,7 @@ use Rattle.nesc_core.specs.declared.tree.Program as tree_program
 use Rattle.nesc_core.specs.Nodes.{stmt_nodes_of}
 use Rattle.nesc_core.specs.View.{stmt_of, body_of, program_of}
 use Rattle.call_graph.specs.declared.uses.Use as listed
-use Rattle.call_graph.specs.Uses.{Use, stmt_uses, uses_of}
+use Rattle.call_graph.specs.Uses.{stmt_uses, uses_of}
 use Rattle.call_graph.specs.View.{use_of}
 use Rattle.call_graph.specs.Graph.{IsCounted, called, callees_by, row_at}
 use Rattle.call_graph.proofs.ViewLists.{next_of}

@@ -1,5 +1,5 @@
 -- What a graph of calls is (own; which code is asynchronous after Gay et al. 2003).
-use Rattle.std.specs.Prelude.{◌≡◌, ℕ, ◌<◌, ◌^◌, Bool, true, false, List, [], ◌∷◌, length, map, slice_index_or, Some, slice_get}
+use Rattle.std.specs.Prelude.{◌≡◌, ℕ, ◌<◌, ◌^◌, Bool, true, false, List, [], ◌∷◌, length, slice_index_or, Some, slice_get}
 use Rattle.std.specs.List.{flat_map}
 use Rattle.nesc_core.specs.Plain.{Body, Program}
 use Rattle.nesc_core.specs.Nodes.{stmt_nodes_of}

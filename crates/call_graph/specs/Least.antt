@@ -1,6 +1,6 @@
 -- The shortest path, and of these the least by body numbers, as it can be found: how far each body is from an end, and then, from
 -- the root on, always the least body from which the rest can still be gone.
-use Rattle.std.specs.Prelude.{◌≡◌, ℕ, zero, suc, ◌<◌, ◌≤◌, min, Bool, true, false, if◌then◌else◌, List, [], ◌∷◌, Option, Some, None}
+use Rattle.std.specs.Prelude.{◌≡◌, ℕ, zero, suc, ◌<◌, min, Bool, true, false, if◌then◌else◌, List, [], ◌∷◌, Option, Some, None}
 use Rattle.std.specs.List.{list_any}
 use Rattle.call_graph.specs.Paths.{IsPath, IsLeast}
 

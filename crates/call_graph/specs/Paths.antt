@@ -1,5 +1,5 @@
 -- Paths: chains of calls from the boot body, a task or a handler (own, after Gay et al. 2003).
-use Rattle.std.specs.Prelude.{◌≡◌, ℕ, zero, suc, ◌<◌, Bool, true, false, ◌⊎◌, ⊤, List, [], ◌∷◌, ◌++◌, length, map}
+use Rattle.std.specs.Prelude.{◌≡◌, ℕ, zero, suc, ◌<◌, true, false, ◌⊎◌, ⊤, List, [], ◌∷◌, ◌++◌, length, map}
 use Rattle.std.specs.List.{flat_map}
 use Rattle.nesc_core.specs.Plain.{Program}
 use Rattle.call_graph.specs.Uses.{Use, Access, Calls, uses}

@@ -1,6 +1,7 @@
 -- Why a program is refused for its calls: a cycle of them, or a command or event without `async` behind a handler (own; that
 -- asynchronous code calls asynchronous code alone after Gay et al. 2003).
 use Rattle.std.specs.Prelude.{⊤, ◌≡◌, ℕ, ◌==◌, Bool, true, false, ◌&&◌, not, if◌then◌else◌, List, [], ◌∷◌, Option, Some, None, slice_get}
+use Rattle.std.specs.List.{list_all}
 use Rattle.nm_base.specs.declared.pos.Pos.{Pos}
 use Rattle.nm_base.specs.declared.fault.Fault.{Fault}
 use Rattle.nm_base.specs.declared.fault.Fault.TheVariants as fault
@@ -8,6 +9,8 @@ use Rattle.nm_base.specs.declared.refusal.Refusal.{Refusal}
 use Rattle.nm_base.specs.declared.refusal.Refusal.TheVariants as refusal
 use Rattle.nesc_core.specs.Plain.{Body, Program}
 use Rattle.nesc_core.specs.Calls.{HasNoCycle}
+use Rattle.call_graph.specs.Graph.{row_at}
+use Rattle.call_graph.specs.Ranks.{is_some, AreRanks}
 use Rattle.call_graph.specs.Uses.{Use, Access, Calls, uses}
 use Rattle.call_graph.specs.Paths.{IsIn, callees, handler_roots, IsPath, IsLeast}
 
@@ -25,9 +28,17 @@ last_place p (f ∷ g ∷ []) = call_place (uses p f) g
 last_place p (f ∷ g ∷ h ∷ rest) = last_place p (g ∷ h ∷ rest)
 
 -- a chain of calls from a body back to it
+abbrev pub IsCycleBy : (steps : ℕ → List ℕ) → List ℕ → Type 0
+IsCycleBy steps [] = ⊥
+IsCycleBy steps (f ∷ rest) = IsPath (steps f) steps rest f
+
 abbrev pub IsCycle : Program → List ℕ → Type 0
-IsCycle p [] = ⊥
-IsCycle p (f ∷ rest) = IsPath (callees p f) (callees p) rest f
+IsCycle p = IsCycleBy (callees p)
+
+-- ranks for all bodies, or the least cycle
+abbrev pub IsCycleOf : (table : List (List ℕ)) → Option (List ℕ) → Type 0
+IsCycleOf table None = (ranks : List (Option ℕ)) × AreRanks table ranks × (list_all is_some ranks ≡ true)
+IsCycleOf table (Some path) = IsLeast (IsCycleBy (row_at table)) path
 
 -- a command or event without `async`
 abbrev pub is_sync_body : Body → Bool
@@ -41,6 +52,10 @@ is_sync (Some b) = is_sync_body b
 abbrev pub IsSyncPath : Program → List ℕ → Type 0
 IsSyncPath p [] = ⊥
 IsSyncPath p (f ∷ rest) = IsIn f (handler_roots p) × (g : ℕ) × IsPath (callees p f) (callees p) rest g × (is_sync (slice_get p.bodies g) ≡ true)
+
+-- no handler reaches one
+abbrev pub HasNoSyncPath : Program → Type 0
+HasNoSyncPath p = (path : List ℕ) → IsSyncPath p path → ⊥
 
 -- the shortest cycle, and of these the least by body numbers, so that it begins with its least body
 pub record IsRecursion (p : Program) (pos : Pos) (path : List ℕ) : Type 0 where

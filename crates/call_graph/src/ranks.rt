@@ -13,7 +13,7 @@ use std::alloc::Global;
 
 /// Gives ranks to bodies, as far as no cycle of calls hinders it; the table has the bodies that each body calls. In time
 /// linear in the calls where there is no cycle.
-pub fn ranks_of(alloc: Global, table: &[List<u32>]) -> Result<Vec<Option<u32>>, NoMemory>
+pub(crate) fn ranks_of(alloc: Global, table: &[List<u32>]) -> Result<Vec<Option<u32>>, NoMemory>
     requires { length table.now < 2 ^ 32 }
     ensures { IfOk result (λ v. AreRanks table.now v.items) }
 {

@@ -1,4 +1,4 @@
-use Rattle.std.proofs.Common.{ℕ, ◌-◌, length}
+use Rattle.std.proofs.Common.{◌-◌, length}
 use Rattle.call_graph.specs.Ranks.{AreSettled}
 use Rattle.call_graph.proofs.ranks.settle_all.Given as goal
 

@@ -1,5 +1,3 @@
-use Rattle.std.proofs.Common.{ap, sym, ◌∙◌}
-use Rattle.call_graph.specs.Graph.{row_at}
 use Rattle.call_graph.proofs.Tables.{table_at_end}
 use Rattle.call_graph.proofs.table.callees.Goals as goal
 
