@@ -14,3 +14,4 @@ pub mod Refusing
 pub mod Walking
 pub mod Syncs
 pub mod Graphs
+pub mod Naming

@@ -8,3 +8,4 @@ pub mod Ranks
 pub mod Search
 pub mod Refusals
 pub mod Shortest
+pub mod Named

@@ -13,7 +13,7 @@ mod uses;
 
 pub use building::graph;
 pub use edges::{Call, CallGraph};
-pub use laws::{each_body_rises, each_path_is_least};
+pub use laws::{each_body_rises, each_call_names_a_body, each_path_is_least};
 pub use marks::reach;
 pub use search::least_path;
 pub use table::{callees, row};
