@@ -1,0 +1,7 @@
+pub mod Many
+pub mod Guards
+pub mod Kept
+pub mod Heights
+pub mod Stars
+pub mod Bases
+pub mod Turns

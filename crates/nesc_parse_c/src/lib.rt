@@ -1,0 +1,14 @@
+//! The parser of C's part: expressions and types.
+#![tactic(auto)]
+
+mod enums;
+mod fields;
+mod growths;
+mod leaves;
+mod operands;
+mod operators;
+mod precedence;
+mod reader;
+mod stop;
+mod type_parts;
+mod types;
