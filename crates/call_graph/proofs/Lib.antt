@@ -15,3 +15,4 @@ pub mod Walking
 pub mod Syncs
 pub mod Graphs
 pub mod Naming
+pub mod TestLemmas

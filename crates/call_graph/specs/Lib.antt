@@ -9,3 +9,4 @@ pub mod Search
 pub mod Refusals
 pub mod Shortest
 pub mod Named
+pub mod TestPrograms

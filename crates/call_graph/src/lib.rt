@@ -9,6 +9,8 @@ mod ranks;
 mod refusals;
 mod search;
 mod table;
+#[cfg(test)]
+mod tests;
 mod uses;
 
 pub use building::graph;
