@@ -1,0 +1,5 @@
+pub mod Order
+pub mod PathLemmas
+pub mod Walking
+pub mod OneAnswer
+pub mod NextLemmas
