@@ -6,7 +6,7 @@ ghost use Rattle.nesc_core.specs.Parts as parts;
 ghost use Rattle.nesc_core.specs.Parts.{LiesWell, run_has, run_of};
 ghost use Rattle.nesc_core.specs.Plain.{struct};
 ghost use Rattle.nesc_core.specs.PlaceTypes as types_of_places;
-ghost use Rattle.nesc_core.specs.PlaceTypes.{element_of, fields_of, type_in};
+ghost use Rattle.nesc_core.specs.PlaceTypes.{fields_of, type_in};
 ghost use Rattle.nesc_core.specs.Size.{AreSized, IsSized, layout_of};
 ghost use Rattle.nesc_core.specs.View.{field_of, object_of, place_of, program_of, structs_of, type_of};
 
@@ -29,7 +29,7 @@ pub fn place_type<'a>(
         Place::Object(k) => object_type(p, *k),
         Place::Local(x) => types.get(*x as usize),
         Place::Deref(_, t) => Some(t),
-        Place::Index(base, _) => element_type(place_type(p, types, base)),
+        Place::Index(base, _) => element_of(place_type(p, types, base)),
         Place::Field(base, k) => field_type(&p.structs, place_type(p, types, base), *k),
     }
 }
@@ -41,8 +41,9 @@ fn object_type(p: &Program, k: u32) -> Option<&CoreType>
     Some(&o.ty)
 }
 
-fn element_type(t: Option<&CoreType>) -> Option<&CoreType>
-    ensures { type_in (option_copied result) ≡ element_of (type_in (option_copied t.entry)) }
+/// The type of an array's elements; None at no type and at a type that is no array.
+pub fn element_of(t: Option<&CoreType>) -> Option<&CoreType>
+    ensures { type_in (option_copied result) ≡ types_of_places.element_of (type_in (option_copied t.entry)) }
 {
     match t? {
         CoreType::Array(element, _) => Some(element),
@@ -50,7 +51,8 @@ fn element_type(t: Option<&CoreType>) -> Option<&CoreType>
     }
 }
 
-fn field_type<'a>(s: &'a Structs, t: Option<&'a CoreType>, k: u32) -> Option<&'a CoreType>
+/// The type of field `k` of a struct type; None at no type, at a type that is no struct, and where the struct has no such field.
+pub fn field_type<'a>(s: &'a Structs, t: Option<&'a CoreType>, k: u32) -> Option<&'a CoreType>
     ensures { type_in (option_copied result) ≡ types_of_places.field_type (slice_get (fields_of (structs_of s.now) (type_in (option_copied t.entry))) k) }
 {
     match t? {
