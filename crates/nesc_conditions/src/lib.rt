@@ -5,7 +5,7 @@ mod arithmetic;
 mod condition;
 mod defined;
 mod frames;
-mod literals;
+pub mod literals;
 mod operator;
 mod rows;
 mod spelled;

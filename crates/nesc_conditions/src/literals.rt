@@ -1,4 +1,4 @@
-//! The values of integer and character literals.
+//! The digits and values of integer and character literals.
 
 ghost use Rattle.std.specs.Prelude.{◌≡◌, ◌≤◌, ◌+◌, ◌*◌, pos};
 ghost use Rattle.std.specs.Int.{int_wrap, w8, w64};
@@ -27,8 +27,8 @@ fn appended(value: u128, radix: u32, digit: u32) -> Option<u128>
         .checked_add(u128::from(digit))
 }
 
-// The number that the digits at the front write; None from 2^128 on.
-fn digits(radix: u32, bytes: &[u8]) -> Option<u128>
+/// The number that the digits at the front of `bytes` write in this radix; None from 2^128 on.
+pub fn digits(radix: u32, bytes: &[u8]) -> Option<u128>
     requires least { 2 ≤ radix }
     requires most { radix ≤ 36 }
     ensures { result ≡ digits_of radix bytes.now }
@@ -43,8 +43,8 @@ fn digits(radix: u32, bytes: &[u8]) -> Option<u128>
     Some(value)
 }
 
-// The radix of an integer literal, and what stands behind the letters that show it.
-fn radix(text: &[u8]) -> (u32, &[u8])
+/// The radix of an integer literal, which `0x` or `0` shows, and what stands behind these letters (C99, 6.4.4.1).
+pub fn radix(text: &[u8]) -> (u32, &[u8])
     ensures least { 2 ≤ result.0 }
     ensures most { result.0 ≤ 36 }
     ensures radix { result.0 ≡ (radix_of text.now).0 }
@@ -70,8 +70,8 @@ fn wrapped_byte(value: u128) -> i64
     i64::from(((value % 256) as u8).cast_signed())
 }
 
-/// The value of an integer literal, of which 64 bits are kept.
-pub(crate) fn integer(text: &[u8]) -> Option<i64>
+/// The value of an integer literal, of which 64 bits are kept; None from 2^128 on.
+pub fn integer(text: &[u8]) -> Option<i64>
     ensures { result ≡ integer_value text.now }
 {
     let (radix, bytes) = radix(text);
@@ -148,8 +148,8 @@ fn quoted(bytes: &[u8]) -> Option<u128>
     }
 }
 
-/// The value of a character literal, a signed number of 8 bits.
-pub(crate) fn character(text: &[u8]) -> Option<i64>
+/// The value of a character literal between its quotes, a signed number of 8 bits; None where the text is no such literal (C99, 6.4.4.4).
+pub fn character(text: &[u8]) -> Option<i64>
     ensures { result ≡ character_value text.now }
 {
     let [_, bytes @ .., _] = text else {
