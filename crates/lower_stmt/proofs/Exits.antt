@@ -1,0 +1,172 @@
+-- How statements are left: on to what is behind them, or through the exits of what they stand in.
+use Rattle.std.proofs.Common.{◌≡◌, ℕ, ◌+◌, ◌≤◌, true, List, [], ◌∷◌, ◌++◌, Option, Some, None, refl, sym, subst, arith}
+use Rattle.std.specs.Prelude.{ℤ, pos}
+use Rattle.nm_base.specs.declared.action.Action.TheVariants as action
+use Rattle.nm_base.specs.declared.int_type.IntType.{IntType}
+use Rattle.nm_base.specs.declared.int_type.IntType.TheVariants.{I8, U8, I16, U16, I32, U32}
+use Rattle.nm_base.specs.Behaviour.{Behaviour, Does}
+use Rattle.nesc_core.specs.Plain.{Ty, Expr, void, int, pointer, array, struct}
+use Rattle.nesc_core.specs.Plain as plain
+use Rattle.nesc_core.specs.Typing.{Has, IsOf, IsScalar}
+use Rattle.nesc_core.specs.Typing as typing
+use Rattle.nesc_core.specs.WellFormed.{Exits, IsDone, IsGiven}
+use Rattle.nesc_core.specs.Derefs.{expr_derefs, maybe_derefs}
+use Rattle.nesc_core.specs.Calls.{expr_calls, maybe_calls}
+use Rattle.core_meaning.specs.declared.flow.Flow.{Flow}
+use Rattle.core_meaning.specs.declared.flow.Flow.TheVariants.{On, Broke, Continued, Gave}
+use Rattle.core_meaning.specs.Flow.{on}
+use Rattle.core_meaning.specs.Work.{Locals, Work, give, number_of}
+use Rattle.core_meaning.specs.Act.{done, returned, run, value}
+use Rattle.mid_code.specs.declared.instr.Mid.{Mid}
+use Rattle.mid_code.specs.declared.instr.Mid.TheVariants.{Begin, End}
+use Rattle.mid_code.specs.Runs.{Runs, Stands}
+use Rattle.mid_code.proofs.Runs.{acts_on, fewer}
+use Rattle.mid_code.proofs.Stands.{does, split}
+use Rattle.lower_expr.specs.Held.{IsHeld}
+use Rattle.lower_expr.specs.Locals.{IsResult}
+use Rattle.lower_expr.proofs.Found.{as_number}
+use Rattle.lower_expr.proofs.Pieces.{const_runs}
+use Rattle.lower_stmt.specs.Code.{Ways, break_code, continue_code, in_atomic, nothing_code, return_code, returned_code, step_code, stmt_code}
+use Rattle.lower_stmt.specs.Runs.{AreHeld, Follows, Gives, Setting, code, here}
+use Rattle.lower_stmt.proofs.Common.{GoesOn, Ready, behind, value_runs}
+
+module _ (c : Setting) where
+  -- a statement's work, at code from one place to another
+  pub record DoesIt (exits : Exits) (w : Ways) (pc end : ℕ) (work : Work Flow) : Type 0 where
+    pub by : (n : ℕ) (after : Flow → Locals → Behaviour) (env : Locals) (values frame : ℕ → ℕ) → n ≤ c.turns → AreHeld c env values frame →
+        Follows c exits w end n after → Runs c.codes n (work after env) (here c pc values frame)
+
+  -- work without a value
+  pub record StepsIt (pc end : ℕ) (work : Work (Unit {0})) : Type 0 where
+    pub by : (n : ℕ) (after : Locals → Behaviour) (env : Locals) (values frame : ℕ → ℕ) → n ≤ c.turns → AreHeld c env values frame →
+        GoesOn c n end after → Runs c.codes n (work (λ _. after) env) (here c pc values frame)
+
+  -- fewer steps are asked of what follows
+  pub follows_fewer : (exits : Exits) (w : Ways) (end m n : ℕ) (after : Flow → Locals → Behaviour) → m ≤ n → Follows c exits w end n after → Follows c exits w end m after
+  follows_fewer exits w end m n after le next flow env values frame pc h left =
+      fewer c.codes m n (after flow env) (here c pc values frame) le (next flow env values frame pc h left)
+
+  -- ---- expressions
+
+  pub eval_runs : (e : Expr) (exits : Exits) (w : Ways) (l pc end : ℕ) → typing.IsSome (Has c.p c.types e) → Ready c (expr_derefs e) (expr_calls e) →
+      Stands (code c) pc (step_code c.p c.types c.checks c.spots c.base (Some e) l) end → DoesIt exits w pc end (λ after. value c.p c.types c.calls e (λ _. after On))
+  eval_runs e exits w l pc end typed ready s = record {
+    by = λ n after env values frame few h next.
+        value_runs c e typed.0 c.base l pc end n (λ _. after On) env values frame few (omega arith) typed.1 ready s h
+        (λ v env1 values1 frame1 h1. next On env1 values1 frame1 end h1.holds refl);
+  }
+
+  pub step_runs : (e : Option Expr) (l pc end : ℕ) → IsDone c.p c.types e → Ready c (maybe_derefs e) (maybe_calls e) →
+      Stands (code c) pc (step_code c.p c.types c.checks c.spots c.base e l) end → StepsIt pc end (done c.p c.types c.calls c.turns e)
+  step_runs None l pc end typed ready s = record { by = λ n after env values frame few h next. behind c n (after env) pc end values frame s (next env values frame h) }
+  step_runs (Some e) l pc end typed ready s = record {
+    by = λ n after env values frame few h next.
+        value_runs c e typed.0 c.base l pc end n (λ _. after) env values frame few (omega arith) typed.1 ready s h
+        (λ v env1 values1 frame1 h1. next env1 values1 frame1 h1.holds);
+  }
+
+  -- ---- what is given back
+
+  -- what stands behind the code of a value that is given back
+  pub record IsGivenAt (ty : Ty) (v : ℤ) (values : ℕ → ℕ) : Type 0 where
+    pub number : IsOf (number_of ty) v
+    pub is : IsResult ty v values (c.base + 2)
+
+  abbrev pub NextGiven : Ty → (end n : ℕ) → (ℤ → Locals → Behaviour) → Type 0
+  NextGiven ty end n after = (v : ℤ) (env : Locals) (values frame : ℕ → ℕ) → AreHeld c env values frame → IsGivenAt ty v values → Runs c.codes n (after v env) (here c end values frame)
+
+  zero_of : (t : IntType) → IsOf t (pos 0)
+  zero_of I8 = refl
+  zero_of U8 = refl
+  zero_of I16 = refl
+  zero_of U16 = refl
+  zero_of I32 = refl
+  zero_of U32 = refl
+
+  -- 0 of a type
+  pub nothing_runs : (ty : Ty) (pc end n : ℕ) (after : ℤ → Locals → Behaviour) (env : Locals) (values frame : ℕ → ℕ) → typing.IsResult ty →
+      Stands (code c) pc (nothing_code ty (c.base + 2)) end → AreHeld c env values frame → NextGiven ty end n after → Runs c.codes n (after (pos 0) env) (here c pc values frame)
+  nothing_runs void pc end n after env values frame ok s h next =
+      behind c n (after (pos 0) env) pc end values frame s (next (pos 0) env values frame h (record { number = refl; is = tt }))
+  nothing_runs (int t) pc end n after env values frame ok s h next =
+      const_runs c.codes c.f c.rest c.fits.labelled n c.p c.types c.spots c.base t (pos 0) (c.base + 2) pc end after env values frame (omega arith) (zero_of t) s h
+      (λ v env1 values1 frame1 h1. next v env1 values1 frame1 h1.holds (record { number = h1.is.number; is = h1.is }))
+  nothing_runs (pointer t) pc end n after env values frame ok s h next =
+      const_runs c.codes c.f c.rest c.fits.labelled n c.p c.types c.spots c.base U16 (pos 0) (c.base + 2) pc end after env values frame (omega arith) refl s h
+      (λ v env1 values1 frame1 h1. next v env1 values1 frame1 h1.holds (record { number = h1.is.number; is = h1.is }))
+  nothing_runs (array t m) pc end n after env values frame ok s h next = absurd ok
+  nothing_runs (struct k) pc end n after env values frame ok s h next = absurd ok
+
+  returned_runs : (e : Option Expr) (exits : Exits) (w : Ways) (l pc end n : ℕ) (after : ℤ → Locals → Behaviour) (env : Locals) (values frame : ℕ → ℕ) →
+      n ≤ c.turns → IsGiven c.p c.types e exits.gives → Gives (plain.return e) exits w → Ready c (maybe_derefs e) (maybe_calls e) →
+      Stands (code c) pc (returned_code c.p c.types c.checks c.spots c.base e w l) end → AreHeld c env values frame → NextGiven w.gives end n after →
+      Runs c.codes n (returned c.p c.types c.calls c.turns e after env) (here c pc values frame)
+  returned_runs None exits w l pc end n after env values frame few typed gives ready s h next = nothing_runs w.gives pc end n after env values frame gives.result s h next
+  returned_runs (Some e) exits w l pc end n after env values frame few typed gives ready s h next =
+      let same : w.gives ≡ exits.gives = gives.same refl in
+      value_runs c e exits.gives (c.base + 2) l pc end n after env values frame few (omega arith) typed.1 ready s h
+      (λ v env1 values1 frame1 h1.
+      let number : IsHeld (number_of exits.gives) v values1 (c.base + 2) = as_number exits.gives v values1 (c.base + 2) typed.0 h1.is in
+      next v env1 values1 frame1 h1.holds (subst (λ ty. IsGivenAt ty v values1) (sym same) (record { number = number.number; is = h1.is })))
+
+  pub return_runs : (e : Option Expr) (exits : Exits) (w : Ways) (l pc end : ℕ) → IsGiven c.p c.types e exits.gives → Gives (plain.return e) exits w → Ready c (maybe_derefs e) (maybe_calls e) →
+      Stands (code c) pc (stmt_code c.p c.types c.checks c.spots c.base (plain.return e) w l) end → DoesIt exits w pc end (run c.p c.types c.calls c.turns (plain.return e))
+  return_runs e exits w l pc end typed gives ready s =
+      let s1 = split (code c) pc end (returned_code c.p c.types c.checks c.spots c.base e w l) (return_code w (c.base + 2)) s in
+      record {
+        by = λ n after env values frame few h next.
+            returned_runs e exits w l pc s1.0 n (λ v. after (Gave v)) env values frame few typed gives ready s1.1 h
+            (λ v env1 values1 frame1 h1 given. next (Gave v) env1 values1 frame1 s1.0 h1 (given.number, given.is, (end, s1.2)));
+      }
+
+  pub break_runs : (exits : Exits) (w : Ways) (pc end : ℕ) → exits.breaks ≡ true → Stands (code c) pc (break_code w) end → DoesIt exits w pc end (give Broke)
+  break_runs exits w pc end ok s = record { by = λ n after env values frame few h next. next Broke env values frame pc h (ok, (end, s)) }
+
+  pub continue_runs : (exits : Exits) (w : Ways) (pc end : ℕ) → exits.continues ≡ true → Stands (code c) pc (continue_code w) end → DoesIt exits w pc end (give Continued)
+  continue_runs exits w pc end ok s = record { by = λ n after env values frame few h next. next Continued env values frame pc h (ok, (end, s)) }
+
+  -- ---- what stands behind a statement
+
+  pub on_follows : (exits : Exits) (w : Ways) (mid end n : ℕ) (more : Work Flow) (after : Flow → Locals → Behaviour) → Follows c exits w end n after → GoesOn c n mid (more after) →
+      Follows c exits w mid n (λ flow. on flow more after)
+  on_follows exits w mid end n more after next go On env values frame pc h left = behind c n (more after env) pc mid values frame left (go env values frame h)
+  on_follows exits w mid end n more after next go Broke env values frame pc h left = next Broke env values frame pc h left
+  on_follows exits w mid end n more after next go Continued env values frame pc h left = next Continued env values frame pc h left
+  on_follows exits w mid end n more after next go (Gave v) env values frame pc h left = next (Gave v) env values frame pc h left
+
+  -- the same exits, where only the place behind differs
+  pub ends_sooner : (exits : Exits) (w : Ways) (mid end n : ℕ) (after : Flow → Locals → Behaviour) → Follows c exits w end n after → GoesOn c n mid (after On) → Follows c exits w mid n after
+  ends_sooner exits w mid end n after next go On env values frame pc h left = behind c n (after On env) pc mid values frame left (go env values frame h)
+  ends_sooner exits w mid end n after next go Broke env values frame pc h left = next Broke env values frame pc h left
+  ends_sooner exits w mid end n after next go Continued env values frame pc h left = next Continued env values frame pc h left
+  ends_sooner exits w mid end n after next go (Gave v) env values frame pc h left = next (Gave v) env values frame pc h left
+
+  -- ---- atomic statements
+
+  -- each exit of an atomic statement begins with its End
+  atomic_left : (exits : Exits) (w : Ways) (mid end n : ℕ) (after : Flow → Locals → Behaviour) → Stands (code c) mid (End w.status ∷ []) end → Follows c exits w end n after →
+      Follows c exits (in_atomic w) mid n (λ flow env. Does action.End (after flow env))
+  atomic_left exits w mid end n after s next On env values frame pc h left =
+      behind c n (Does action.End (after On env)) pc mid values frame left
+      (acts_on c.codes n action.End (after On env) _ (here c (mid + 1) values frame) (does c.codes c.f c.rest mid values frame (End w.status) s.0) (next On env values frame (mid + 1) h s.1))
+  atomic_left exits w mid end n after s next Broke env values frame pc h left =
+      acts_on c.codes n action.End (after Broke env) _ (here c (pc + 1) values frame) (does c.codes c.f c.rest pc values frame (End w.status) left.1.1.0)
+      (next Broke env values frame (pc + 1) h (left.0, (left.1.0, left.1.1.1)))
+  atomic_left exits w mid end n after s next Continued env values frame pc h left =
+      acts_on c.codes n action.End (after Continued env) _ (here c (pc + 1) values frame) (does c.codes c.f c.rest pc values frame (End w.status) left.1.1.0)
+      (next Continued env values frame (pc + 1) h (left.0, (left.1.0, left.1.1.1)))
+  atomic_left exits w mid end n after s next (Gave v) env values frame pc h left =
+      acts_on c.codes n action.End (after (Gave v) env) _ (here c (pc + 1) values frame) (does c.codes c.f c.rest pc values frame (End w.status) left.2.1.0)
+      (next (Gave v) env values frame (pc + 1) h (left.0, left.1, (left.2.0, left.2.1.1)))
+
+  pub atomic_runs : (exits : Exits) (w : Ways) (pc end : ℕ) (inner : List Mid) (work : Work Flow) → Stands (code c) pc (Begin w.status ∷ (inner ++ End w.status ∷ [])) end →
+      ((from to : ℕ) → Stands (code c) from inner to → DoesIt exits (in_atomic w) from to work) →
+      DoesIt exits w pc end (λ after env. Does action.Begin (work (λ flow env1. Does action.End (after flow env1)) env))
+  atomic_runs exits w pc end inner work s runs =
+      let s1 = split (code c) (pc + 1) end inner (End w.status ∷ []) s.1 in
+      let inside = runs (pc + 1) s1.0 s1.1 in
+      record {
+        by = λ n after env values frame few h next.
+            acts_on c.codes n action.Begin (work (λ flow env1. Does action.End (after flow env1)) env) _ (here c (pc + 1) values frame) (does c.codes c.f c.rest pc values frame (Begin w.status) s.0)
+            (inside.by n (λ flow env1. Does action.End (after flow env1)) env values frame few h (atomic_left exits w s1.0 end n after s1.2 next));
+      }

@@ -1,0 +1,10 @@
+pub mod Common
+pub mod Exits
+pub mod Loops
+pub mod Branches
+pub mod Cases
+pub mod Clears
+pub mod Apart
+pub mod Enters
+pub mod Inlined
+pub mod Statements
