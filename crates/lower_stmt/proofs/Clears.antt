@@ -63,7 +63,7 @@ set_to_itself [] k lt = absurd (omega (arith, lt))
 set_to_itself (x ∷ xs) zero lt = refl
 set_to_itself (x ∷ xs) (suc k) lt = ap (λ ys. x ∷ ys) (set_to_itself xs k (omega (arith, lt)))
 
-zero_value : (p : Program) (ty : Ty) → IsScalar ty → local_value (number_of ty) (bytes_of (size_of p ty) 0) ≡ pos 0
+pub zero_value : (p : Program) (ty : Ty) → IsScalar ty → local_value (number_of ty) (bytes_of (size_of p ty) 0) ≡ pos 0
 zero_value p void ok = absurd ok
 zero_value p (int I8) ok = refl
 zero_value p (int U8) ok = refl

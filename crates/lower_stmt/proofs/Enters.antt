@@ -113,13 +113,6 @@ result_scalar (pointer t) h e = tt
 result_scalar (array t m) h e = absurd h
 result_scalar (struct j) h e = absurd h
 
-pub scalar_not_void : (ty : Ty) → IsScalar ty → is_void ty ≡ false
-scalar_not_void void h = absurd h
-scalar_not_void (int t) h = refl
-scalar_not_void (pointer t) h = refl
-scalar_not_void (array t m) h = absurd h
-scalar_not_void (struct j) h = absurd h
-
 void_is : (ty : Ty) → is_void ty ≡ true → ty ≡ void
 void_is void e = refl
 void_is (int t) e = absurd (cc)

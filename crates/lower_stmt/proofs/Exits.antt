@@ -1,5 +1,5 @@
 -- How statements are left: on to what is behind them, or through the exits of what they stand in.
-use Rattle.std.proofs.Common.{◌≡◌, ℕ, ◌+◌, ◌≤◌, true, List, [], ◌∷◌, ◌++◌, Option, Some, None, refl, sym, subst, arith}
+use Rattle.std.proofs.Common.{false, ◌≡◌, ℕ, ◌+◌, ◌≤◌, true, List, [], ◌∷◌, ◌++◌, Option, Some, None, refl, sym, subst, arith}
 use Rattle.std.specs.Prelude.{ℤ, pos}
 use Rattle.nm_base.specs.declared.action.Action.TheVariants as action
 use Rattle.nm_base.specs.declared.int_type.IntType.{IntType}
@@ -23,12 +23,19 @@ use Rattle.mid_code.specs.Runs.{Runs, Stands}
 use Rattle.mid_code.proofs.Runs.{acts_on, fewer}
 use Rattle.mid_code.proofs.Stands.{does, split}
 use Rattle.lower_expr.specs.Held.{IsHeld}
-use Rattle.lower_expr.specs.Locals.{IsResult}
 use Rattle.lower_expr.proofs.Found.{as_number}
 use Rattle.lower_expr.proofs.Pieces.{const_runs}
 use Rattle.lower_stmt.specs.Code.{Ways, break_code, continue_code, in_atomic, nothing_code, return_code, returned_code, step_code, stmt_code}
-use Rattle.lower_stmt.specs.Runs.{AreHeld, Follows, Gives, Setting, code, here}
+use Rattle.lower_stmt.specs.Runs.{AreHeld, Follows, Gives, IsGivenAt, Setting, code, here}
+use Rattle.lower_expr.specs.Code.{is_void}
 use Rattle.lower_stmt.proofs.Common.{GoesOn, Ready, behind, value_runs}
+
+pub scalar_not_void : (ty : Ty) → IsScalar ty → is_void ty ≡ false
+scalar_not_void void h = absurd h
+scalar_not_void (int t) h = refl
+scalar_not_void (pointer t) h = refl
+scalar_not_void (array t m) h = absurd h
+scalar_not_void (struct j) h = absurd h
 
 module _ (c : Setting) where
   -- a statement's work, at code from one place to another
@@ -67,13 +74,8 @@ module _ (c : Setting) where
 
   -- ---- what is given back
 
-  -- what stands behind the code of a value that is given back
-  pub record IsGivenAt (ty : Ty) (v : ℤ) (values : ℕ → ℕ) : Type 0 where
-    pub number : IsOf (number_of ty) v
-    pub is : IsResult ty v values (c.base + 2)
-
   abbrev pub NextGiven : Ty → (end n : ℕ) → (ℤ → Locals → Behaviour) → Type 0
-  NextGiven ty end n after = (v : ℤ) (env : Locals) (values frame : ℕ → ℕ) → AreHeld c env values frame → IsGivenAt ty v values → Runs c.codes n (after v env) (here c end values frame)
+  NextGiven ty end n after = (v : ℤ) (env : Locals) (values frame : ℕ → ℕ) → AreHeld c env values frame → IsGivenAt c ty v values → Runs c.codes n (after v env) (here c end values frame)
 
   zero_of : (t : IntType) → IsOf t (pos 0)
   zero_of I8 = refl
@@ -87,13 +89,13 @@ module _ (c : Setting) where
   pub nothing_runs : (ty : Ty) (pc end n : ℕ) (after : ℤ → Locals → Behaviour) (env : Locals) (values frame : ℕ → ℕ) → typing.IsResult ty →
       Stands (code c) pc (nothing_code ty (c.base + 2)) end → AreHeld c env values frame → NextGiven ty end n after → Runs c.codes n (after (pos 0) env) (here c pc values frame)
   nothing_runs void pc end n after env values frame ok s h next =
-      behind c n (after (pos 0) env) pc end values frame s (next (pos 0) env values frame h (record { number = refl; is = tt }))
+      behind c n (after (pos 0) env) pc end values frame s (next (pos 0) env values frame h (record { number = refl; is = tt; nothing = λ e. refl }))
   nothing_runs (int t) pc end n after env values frame ok s h next =
       const_runs c.codes c.f c.rest c.fits.labelled n c.p c.types c.spots c.base t (pos 0) (c.base + 2) pc end after env values frame (omega arith) (zero_of t) s h
-      (λ v env1 values1 frame1 h1. next v env1 values1 frame1 h1.holds (record { number = h1.is.number; is = h1.is }))
+      (λ v env1 values1 frame1 h1. next v env1 values1 frame1 h1.holds (record { number = h1.is.number; is = h1.is; nothing = λ e. absurd (cc) }))
   nothing_runs (pointer t) pc end n after env values frame ok s h next =
       const_runs c.codes c.f c.rest c.fits.labelled n c.p c.types c.spots c.base U16 (pos 0) (c.base + 2) pc end after env values frame (omega arith) refl s h
-      (λ v env1 values1 frame1 h1. next v env1 values1 frame1 h1.holds (record { number = h1.is.number; is = h1.is }))
+      (λ v env1 values1 frame1 h1. next v env1 values1 frame1 h1.holds (record { number = h1.is.number; is = h1.is; nothing = λ e. absurd (cc) }))
   nothing_runs (array t m) pc end n after env values frame ok s h next = absurd ok
   nothing_runs (struct k) pc end n after env values frame ok s h next = absurd ok
 
@@ -107,7 +109,7 @@ module _ (c : Setting) where
       value_runs c e exits.gives (c.base + 2) l pc end n after env values frame few (omega arith) typed.1 ready s h
       (λ v env1 values1 frame1 h1.
       let number : IsHeld (number_of exits.gives) v values1 (c.base + 2) = as_number exits.gives v values1 (c.base + 2) typed.0 h1.is in
-      next v env1 values1 frame1 h1.holds (subst (λ ty. IsGivenAt ty v values1) (sym same) (record { number = number.number; is = h1.is })))
+      next v env1 values1 frame1 h1.holds (subst (λ ty. IsGivenAt c ty v values1) (sym same) (record { number = number.number; is = h1.is; nothing = λ e. (let given = scalar_not_void exits.gives typed.0 in absurd (cc)) })))
 
   pub return_runs : (e : Option Expr) (exits : Exits) (w : Ways) (l pc end : ℕ) → IsGiven c.p c.types e exits.gives → Gives (plain.return e) exits w → Ready c (maybe_derefs e) (maybe_calls e) →
       Stands (code c) pc (stmt_code c.p c.types c.checks c.spots c.base (plain.return e) w l) end → DoesIt exits w pc end (run c.p c.types c.calls c.turns (plain.return e))
@@ -116,7 +118,7 @@ module _ (c : Setting) where
       record {
         by = λ n after env values frame few h next.
             returned_runs e exits w l pc s1.0 n (λ v. after (Gave v)) env values frame few typed gives ready s1.1 h
-            (λ v env1 values1 frame1 h1 given. next (Gave v) env1 values1 frame1 s1.0 h1 (given.number, given.is, (end, s1.2)));
+            (λ v env1 values1 frame1 h1 given. next (Gave v) env1 values1 frame1 s1.0 h1 (given, (end, s1.2)));
       }
 
   pub break_runs : (exits : Exits) (w : Ways) (pc end : ℕ) → exits.breaks ≡ true → Stands (code c) pc (break_code w) end → DoesIt exits w pc end (give Broke)
@@ -156,8 +158,8 @@ module _ (c : Setting) where
       acts_on c.codes n action.End (after Continued env) _ (here c (pc + 1) values frame) (does c.codes c.f c.rest pc values frame (End w.status) left.1.1.0)
       (next Continued env values frame (pc + 1) h (left.0, (left.1.0, left.1.1.1)))
   atomic_left exits w mid end n after s next (Gave v) env values frame pc h left =
-      acts_on c.codes n action.End (after (Gave v) env) _ (here c (pc + 1) values frame) (does c.codes c.f c.rest pc values frame (End w.status) left.2.1.0)
-      (next (Gave v) env values frame (pc + 1) h (left.0, left.1, (left.2.0, left.2.1.1)))
+      acts_on c.codes n action.End (after (Gave v) env) _ (here c (pc + 1) values frame) (does c.codes c.f c.rest pc values frame (End w.status) left.1.1.0)
+      (next (Gave v) env values frame (pc + 1) h (left.0, (left.1.0, left.1.1.1)))
 
   pub atomic_runs : (exits : Exits) (w : Ways) (pc end : ℕ) (inner : List Mid) (work : Work Flow) → Stands (code c) pc (Begin w.status ∷ (inner ++ End w.status ∷ [])) end →
       ((from to : ℕ) → Stands (code c) from inner to → DoesIt exits (in_atomic w) from to work) →

@@ -29,10 +29,10 @@ use Rattle.lower_expr.specs.Code.{kind_of_spot, local_code, put_code}
 use Rattle.lower_expr.specs.Held.{IsHeld, IsHighHeld}
 use Rattle.lower_expr.proofs.Found.{as_number}
 use Rattle.lower_stmt.specs.Code.{Ways, clears_code, enter_code, here_gives, in_here, nothing_code, result_code}
-use Rattle.lower_stmt.specs.Runs.{AreHeld, Follows, Setting, code, here}
+use Rattle.lower_stmt.specs.Runs.{AreHeld, Follows, IsGivenAt, Setting, code, here}
 use Rattle.lower_stmt.proofs.Common.{GoesOn, Ready, behind, jumps, past_label}
-use Rattle.lower_stmt.proofs.Exits.{DoesIt, IsGivenAt, nothing_runs}
-use Rattle.lower_stmt.proofs.Enters.{clears_runs, drop_at, enter_runs, number_bytes, placed_runs, put_runs, scalar_inside, scalar_not_void, scalar_result}
+use Rattle.lower_stmt.proofs.Exits.{DoesIt, nothing_runs, scalar_not_void}
+use Rattle.lower_stmt.proofs.Enters.{clears_runs, drop_at, enter_runs, number_bytes, placed_runs, put_runs, scalar_inside, scalar_result}
 
 or_cases : (a b : Bool) → (a || b) ≡ true → (a ≡ true) ⊎ (b ≡ true)
 or_cases true b e = inl refl
@@ -139,7 +139,7 @@ module _ (c : Setting) where
     body_left mid out end n after none s next Broke env values frame pc h left = absurd (cc left.0)
     body_left mid out end n after none s next Continued env values frame pc h left = absurd (cc left.0)
     body_left mid out end n after none s next (Gave v) env values frame pc h left =
-        jumps c n (Behind after (Gave v) env) l pc out values frame left.2.1.0 s.0 (out_runs v out end n after s next env values frame h (record { number = left.0; is = left.1 }))
+        jumps c n (Behind after (Gave v) env) l pc out values frame left.1.1.0 s.0 (out_runs v out end n after s next env values frame h left.0)
 
     pub here_runs : (pc end : ℕ) (le lc : ℕ) (body_code : List Mid) (body : Work Flow) → Enters c.p c.types arguments first count → Ready c (exprs_derefs arguments) (exprs_calls arguments) →
         All (λ x. (x < first) ⊎ (first + count ≤ x)) (exprs_locals arguments) →

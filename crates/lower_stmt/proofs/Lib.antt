@@ -8,3 +8,9 @@ pub mod Apart
 pub mod Enters
 pub mod Inlined
 pub mod Statements
+pub mod Spots
+pub mod Entry
+pub mod Alone
+pub mod Dereferenced
+pub mod Program
+pub mod Behaving

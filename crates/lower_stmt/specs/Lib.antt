@@ -2,3 +2,4 @@ pub mod Code
 pub mod Bodies
 pub mod Rows
 pub mod Runs
+pub mod Correct

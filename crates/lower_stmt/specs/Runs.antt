@@ -1,5 +1,5 @@
 -- That the code of a statement does what the statement does, however it is left (own).
-use Rattle.std.specs.Prelude.{⊤, ◌≡◌, ◌⊎◌, ℕ, ◌+◌, ◌<◌, ◌≤◌, true, List}
+use Rattle.std.specs.Prelude.{ℤ, pos, ⊤, ◌≡◌, ◌⊎◌, ℕ, ◌+◌, ◌<◌, ◌≤◌, true, List}
 use Rattle.std.specs.List.{All}
 use Rattle.nm_base.specs.Behaviour.{Behaviour}
 use Rattle.nesc_core.specs.Plain.{Ty, Stmt, Stmts, Program, no_stmts, more_stmts}
@@ -20,6 +20,7 @@ use Rattle.mid_code.specs.Machine.{Activation, fn_of}
 use Rattle.mid_code.specs.Runs.{Runs, Stands}
 use Rattle.lower_expr.specs.declared.spot.Spot.{Spot}
 use Rattle.lower_expr.specs.Locals.{Holds, IsResult}
+use Rattle.lower_expr.specs.Code.{is_void}
 use Rattle.lower_expr.specs.Runs.{CallsRun, Fits, IsReady, at_place}
 use Rattle.lower_stmt.specs.Code.{Ways, break_code, continue_code, return_code, stmt_code}
 
@@ -75,13 +76,18 @@ module _ (c : Setting) where
   abbrev pub AreHeld : Locals → (values frame : ℕ → ℕ) → Type 0
   AreHeld env values frame = Holds c.p c.types c.spots c.base env values frame
 
+  -- a value that is given back stands behind `base`; where the type has none it is 0
+  pub record IsGivenAt (ty : Ty) (v : ℤ) (values : ℕ → ℕ) : Type 0 where
+    pub number : IsOf (number_of ty) v
+    pub is : IsResult ty v values (c.base + 2)
+    pub nothing : is_void ty ≡ true → v ≡ pos 0
+
   -- where the machine stands when a statement that ends at a place is left
   abbrev pub LeftAt : Exits → Ways → (end : ℕ) → Flow → (pc : ℕ) → (values : ℕ → ℕ) → Type 0
   LeftAt exits w end On pc values = pc ≡ end
   LeftAt exits w end Broke pc values = (exits.breaks ≡ true) × ((to : ℕ) × Stands code pc (break_code w) to)
   LeftAt exits w end Continued pc values = (exits.continues ≡ true) × ((to : ℕ) × Stands code pc (continue_code w) to)
-  LeftAt exits w end (Gave v) pc values =
-      IsOf (number_of w.gives) v × IsResult w.gives v values (c.base + 2) × ((to : ℕ) × Stands code pc (return_code w (c.base + 2)) to)
+  LeftAt exits w end (Gave v) pc values = IsGivenAt w.gives v values × ((to : ℕ) × Stands code pc (return_code w (c.base + 2)) to)
 
   -- from there it does what comes after
   abbrev pub Follows : Exits → Ways → (end n : ℕ) → (Flow → Locals → Behaviour) → Type 0

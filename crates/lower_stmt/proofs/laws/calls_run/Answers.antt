@@ -1,0 +1,5 @@
+use Rattle.lower_stmt.proofs.Program.{all_calls}
+use Rattle.lower_stmt.proofs.laws.calls_run.Goals as goal
+
+pub returns : goal.returns
+returns c = λ p ranked formed labelled below turns n few. all_calls p formed ranked labelled turns below n few
