@@ -14,3 +14,5 @@ pub mod Alone
 pub mod Dereferenced
 pub mod Program
 pub mod Behaving
+pub mod Labels
+pub mod Weighed

@@ -50,14 +50,18 @@ IsTold (struct k) = ⊥
 abbrev pub AreLabelled : MidCode → Type 0
 AreLabelled c = (f : ℕ) → IsLabelled (fn_of c f).code
 
+-- each label of a lowered program is found where it stands
+abbrev pub EachIsLabelled : Type 0
+EachIsLabelled = (p : Program) → AreLabelled (lowered p)
+
 -- calls of bodies with ranks below one do what the bodies do, where each loop makes at most so many turns
 abbrev pub AllCallsRun : Type 0
 AllCallsRun =
-    (p : Program) (ranked : HasNoCycle p) → IsWellFormed p → AreLabelled (lowered p) → (below turns n : ℕ) → n ≤ turns →
+    (p : Program) (ranked : HasNoCycle p) → IsWellFormed p → (below turns n : ℕ) → n ≤ turns →
     CallsRun (lowered p) n p ranked.rank below (calls_of p below turns)
 
 -- and so do bodies without parameters, from the start of their functions
 abbrev pub EachRootBehaves : Type 0
 EachRootBehaves =
-    (p : Program) → HasNoCycle p → IsWellFormed p → AreLabelled (lowered p) → (f : ℕ) (b : Body) → slice_get p.bodies f ≡ Some b → b.params ≡ 0 → IsTold b.result →
+    (p : Program) → HasNoCycle p → IsWellFormed p → (f : ℕ) (b : Body) → slice_get p.bodies f ≡ Some b → b.params ≡ 0 → IsTold b.result →
     Behaves (source p f) (target (lowered p) f)

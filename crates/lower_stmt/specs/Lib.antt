@@ -3,3 +3,4 @@ pub mod Bodies
 pub mod Rows
 pub mod Runs
 pub mod Correct
+pub mod Bounds

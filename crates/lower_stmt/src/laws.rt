@@ -1,6 +1,7 @@
 //! What the code of statements and bodies does.
 
-ghost use Rattle.lower_stmt.specs.Correct.{AllCallsRun, BehavesOn, EachRootBehaves};
+ghost use Rattle.lower_stmt.specs.Bounds.{EachIsWithin};
+ghost use Rattle.lower_stmt.specs.Correct.{AllCallsRun, BehavesOn, EachIsLabelled, EachRootBehaves};
 ghost use Rattle.lower_stmt.specs.Runs.{StatementsRun};
 
 /// From wherever the code of a statement stands, with values that hold the locals, the machine does exactly what the statement does
@@ -8,6 +9,11 @@ ghost use Rattle.lower_stmt.specs.Runs.{StatementsRun};
 /// switch or its body, behind the End of each atomic statement on the way.
 pub fn statements_run()
     ensures { StatementsRun }
+{}
+
+/// No label stands twice in a function of a lowered program, so a jump leads to where its label stands.
+pub fn labels_found()
+    ensures { EachIsLabelled }
 {}
 
 /// In the functions of a well-formed program whose calls have no cycle, a call does what the body called does and gives back its
@@ -26,4 +32,9 @@ pub fn roots_behave()
 /// What behaves as something that behaves as a third behaves as the third.
 pub fn behaves_on()
     ensures { BehavesOn }
+{}
+
+/// A function's frame is even, and with two bytes for each value it is at most the weight of its body's frame less 24.
+pub fn frames_fit()
+    ensures { EachIsWithin }
 {}

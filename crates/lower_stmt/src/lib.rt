@@ -4,5 +4,5 @@
 mod laws;
 mod rows;
 
-pub use laws::{behaves_on, calls_run, roots_behave, statements_run};
+pub use laws::{behaves_on, calls_run, frames_fit, labels_found, roots_behave, statements_run};
 pub use rows::worked_rows;
