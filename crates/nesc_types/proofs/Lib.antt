@@ -1,3 +1,4 @@
 pub mod Casts
+pub mod DoubledStructs
 pub mod Found
 pub mod Places

@@ -1,5 +1,5 @@
 -- Addresses from an object on.
-use Rattle.std.proofs.Common.{◌≡◌, ℕ, ◌+◌, ◌<◌, ◌≤◌, ◌%◌, zero, suc, All, List, [], ◌∷◌, ◌++◌, length, get_or, drop, refl, sym, ap, ◌∙◌, arith, append_assoc, drop-cons, add-one}
+use Rattle.std.proofs.Common.{◌≡◌, ℕ, ◌+◌, ◌*◌, ◌<◌, ◌≤◌, ◌%◌, replicate, zero, suc, All, List, [], ◌∷◌, ◌++◌, length, get_or, drop, refl, sym, ap, ◌∙◌, arith, append_assoc, drop-cons, add-one}
 use Rattle.std.proofs.Math.ListN.{drop_of_length-le}
 use Rattle.nesc_types.specs.Addresses.{evened, taken, addresses, LiesEven}
 
@@ -35,3 +35,9 @@ all_lie start [] even low high (suc i) d below = absurd (omega arith)
 all_lie start (n ∷ sizes) even low high zero d below = record { even = even; low = low; high = omega arith }
 all_lie start (n ∷ sizes) even low high (suc i) d below =
     all_lie (start + evened n) sizes (even_sum start n even) (omega arith) (omega arith) i d (omega arith)
+
+-- ---- objects of five bytes
+
+pub taken_of_fives : (count : ℕ) → taken (replicate count 5) ≡ 6 * count
+taken_of_fives zero = refl
+taken_of_fives (suc count) = ap (λ (n : ℕ). 6 + n) (taken_of_fives count) ∙ omega arith

@@ -1,7 +1,16 @@
 pub mod Addresses
+pub mod BitRows
+pub mod ComparisonRows
 pub mod Constant
 pub mod Conversions
 pub mod Law
+pub mod LiteralRows
 pub mod Literals
+pub mod QuotientRows
+pub mod RowForms
 pub mod Rule
+pub mod SumRows
+pub mod TestPrograms
+pub mod UnaryRows
 pub mod Values
+pub mod WorkedRows

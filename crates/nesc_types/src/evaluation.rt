@@ -118,21 +118,7 @@ fn value(e: &Expr, values: &Constants, whole: Pos, evaluated: bool) -> Result<Co
             value(a.get(), values, whole, false)?;
             value(b.get(), values, whole, false)
         }
-        Expr::Null(_)
-        | Expr::Unique(..)
-        | Expr::UniqueCount(..)
-        | Expr::Postfix(..)
-        | Expr::Assign(..)
-        | Expr::SizeOfExpr(..)
-        | Expr::SizeOfType(..)
-        | Expr::Index(..)
-        | Expr::Member(..)
-        | Expr::Arrow(..)
-        | Expr::CallFn(..)
-        | Expr::CallItem { .. }
-        | Expr::PortRead(..)
-        | Expr::PortWrite(..)
-        | Expr::Post(..) => not_constant(whole),
+        _ => not_constant(whole),
     }
 }
 

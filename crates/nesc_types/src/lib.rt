@@ -6,7 +6,7 @@ mod conversions;
 mod evaluation;
 mod literals;
 mod operators;
-mod spelled_numbers;
+mod rows;
 #[cfg(test)]
 mod tests;
 mod values;
@@ -15,4 +15,5 @@ pub use addresses::place;
 pub use conversions::{common, promoted};
 pub use evaluation::{constant, pos_of};
 pub use literals::{character, number};
+pub use rows::{literal_rows, operator_rows, worked_constants};
 pub use values::{Constant, Constants};

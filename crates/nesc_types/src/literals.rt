@@ -5,8 +5,8 @@ ghost use Rattle.std.specs.List.{list_any};
 ghost use Rattle.nm_base.specs.IntType as int_type;
 ghost use Rattle.nesc_types.specs.Literals as spec;
 
-use crate::spelled_numbers;
 use crate::values::Constant;
+use nesc_conditions::literals;
 use nm_base::IntType;
 
 // The types that a literal may have, of which it has the first that holds its number (C99, 6.4.4.1).
@@ -107,8 +107,8 @@ fn of_types(n: Option<u32>, types: &[IntType]) -> Option<Constant>
 pub fn number(text: &[u8]) -> Option<Constant>
     ensures { result ≡ spec.number text.now }
 {
-    let (radix, bytes) = spelled_numbers::radix(text);
-    let n = short(spelled_numbers::digits(radix, bytes));
+    let (radix, bytes) = literals::radix(text);
+    let n = short(literals::digits(radix, bytes));
     of_types(n, candidates(radix == 10, is_unsigned(text), is_long(text)))
 }
 
@@ -116,7 +116,7 @@ pub fn number(text: &[u8]) -> Option<Constant>
 pub fn character(text: &[u8]) -> Option<Constant>
     ensures { result ≡ spec.character text.now }
 {
-    match spelled_numbers::character(text) {
+    match literals::character(text) {
         None => None,
         Some(value) => Some((IntType::I16, value)),
     }

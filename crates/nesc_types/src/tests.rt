@@ -1,9 +1,18 @@
 //! Worked constants. The types of literals and the results of operators are those of a C compiler whose int has 16 bits.
 
-use crate::{Constant, Constants, character, constant, number, place, pos_of};
+ghost use Rattle.std.specs.Prelude.{◌≡◌, ◌<◌, IfOk, map, replicate};
+ghost use Rattle.nesc_core.specs.Plain.{struct};
+ghost use Rattle.nesc_core.specs.View.{field_of, structs_of, type_of};
+ghost use Rattle.nesc_types.specs.TestPrograms as programs;
+
+use crate::{
+    Constant, Constants, character, constant, literal_rows, number, operator_rows, place, pos_of,
+    worked_constants,
+};
+use nesc_core::{CoreType, Field, Layouts, Structs};
 use nesc_tree::{Expr, InOp};
 use nm_base::IntType::{I8, I16, I32, U8, U16, U32};
-use nm_base::{Boxed, Fault, Name, NoMemory, Pos};
+use nm_base::{Boxed, Fault, List, Name, NoMemory, Pos};
 use std::alloc::Global;
 use std::test::Fail;
 
@@ -119,5 +128,84 @@ fn places_of_objects(rt: HostRuntime) -> Result<(), Fail> {
     let places = place(alloc, &[1, 3, 2, 0, 4])?;
     let want: [u32; 5] = [0x1100, 0x1102, 0x1106, 0x1108, 0x1108];
     assert_eq!(rt; places.as_slice(), want.as_slice());
+    Ok(())
+}
+
+#[test]
+fn theorems_can_be_called() {
+    operator_rows();
+    literal_rows();
+    worked_constants();
+}
+
+fn struct_type(k: u32) -> CoreType
+    ensures { type_of result ≡ struct k }
+{
+    CoreType::Struct(k)
+}
+
+fn of_struct(alloc: Global, k: u32) -> Result<Field, NoMemory>
+    ensures { IfOk result (λ f. field_of f ≡ programs.of_struct k) }
+{
+    Ok(Field {
+        name: Name::new(alloc, &[])?,
+        ty: struct_type(k),
+    })
+}
+
+fn doubled(alloc: Global, k: u32) -> Result<List<Field>, NoMemory>
+    ensures { IfOk result (λ fields. map field_of fields ≡ programs.doubled k) }
+{
+    if k == 0 {
+        return Ok(List::new(Vec::new(alloc)));
+    }
+    let fields = [of_struct(alloc, k - 1)?, of_struct(alloc, k - 1)?];
+    Ok(List::new(Vec::from_array(alloc, fields)?))
+}
+
+fn doubled_structs(alloc: Global, count: u32) -> Result<Structs, NoMemory>
+    ensures { IfOk result (λ s. structs_of s ≡ programs.doubled_structs count) }
+{
+    let mut structs = Vec::new(alloc);
+    for k in 0..count {
+        structs.push(doubled(alloc, k)?)?;
+    }
+    Ok(Structs {
+        structs: List::new(structs),
+    })
+}
+
+// The size of struct k of so many, each of which names the one below it twice.
+fn size_of_doubled(alloc: Global, count: u32, k: u32) -> Result<u32, NoMemory>
+    requires { k < count }
+{
+    let structs = doubled_structs(alloc, count)?;
+    let layouts = Layouts::new(alloc, &structs)?;
+    Ok(layouts.size(&struct_type(k)))
+}
+
+#[test]
+fn structs_that_name_one_below_twice(rt: HostRuntime) -> Result<(), Fail> {
+    assert_eq!(rt; size_of_doubled(rt.alloc(), 40, 39)?, 0);
+    Ok(())
+}
+
+fn fives(alloc: Global, count: usize) -> Result<Vec<u32>, NoMemory>
+    ensures { IfOk result (λ sizes. sizes.items ≡ replicate count 5) }
+{
+    Ok(vec![in alloc; 5; count]?)
+}
+
+fn places_of_fives(alloc: Global, count: usize) -> Result<Vec<u32>, NoMemory>
+    requires { count < 10001 }
+{
+    let sizes = fives(alloc, count)?;
+    place(alloc, &sizes)
+}
+
+#[test]
+fn places_of_many_objects(rt: HostRuntime) -> Result<(), Fail> {
+    let places = places_of_fives(rt.alloc(), 10_000)?;
+    assert_eq!(rt; places.as_slice().last().copied(), Some(0x1100 + 6 * 9_999));
     Ok(())
 }
