@@ -16,3 +16,4 @@ pub mod Program
 pub mod Behaving
 pub mod Labels
 pub mod Weighed
+pub mod OwnCalls

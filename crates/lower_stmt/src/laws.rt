@@ -1,6 +1,6 @@
 //! What the code of statements and bodies does.
 
-ghost use Rattle.lower_stmt.specs.Bounds.{EachIsWithin};
+ghost use Rattle.lower_stmt.specs.Bounds.{EachCallsItsOwn, EachIsWithin};
 ghost use Rattle.lower_stmt.specs.Correct.{AllCallsRun, BehavesOn, EachIsLabelled, EachRootBehaves};
 ghost use Rattle.lower_stmt.specs.Runs.{StatementsRun};
 
@@ -37,4 +37,9 @@ pub fn behaves_on()
 /// A function's frame is even, and with two bytes for each value it is at most the weight of its body's frame less 24.
 pub fn frames_fit()
     ensures { EachIsWithin }
+{}
+
+/// A function calls the functions of those bodies alone that its body calls.
+pub fn calls_own()
+    ensures { EachCallsItsOwn }
 {}
