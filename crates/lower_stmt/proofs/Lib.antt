@@ -17,3 +17,4 @@ pub mod Behaving
 pub mod Labels
 pub mod Weighed
 pub mod OwnCalls
+pub mod Named

@@ -7,6 +7,9 @@ use Rattle.nesc_core.specs.Weights.{frame_weight}
 use Rattle.mid_code.specs.declared.instr.Mid.{Mid}
 use Rattle.mid_code.specs.declared.instr.Mid.TheVariants.{Call}
 use Rattle.mid_code.specs.declared.code.MidFn.{MidFn}
+use Rattle.mid_code.specs.Form.{AreBelow}
+use Rattle.expr_emitter.specs.Laws.{NamesBelow}
+use Rattle.nesc_core.specs.WellFormed.{IsBody}
 use Rattle.lower_stmt.specs.Bodies.{mid_fn_of}
 
 -- a frame of an even size, which with two bytes for each value is at most the weight of the body's frame less 24
@@ -26,3 +29,11 @@ calls_in (i ∷ is) = calls_in is
 -- a function calls those alone whose bodies its body calls
 abbrev pub EachCallsItsOwn : Type 0
 EachCallsItsOwn = (p : Program) (checks : List Ty) (b : Body) → All (Contains (stmt_calls b.code)) (calls_in (mid_fn_of p checks b).code)
+
+-- a function names values that it has, in its code and as parameters
+pub record NamesItsValues (fn : MidFn) : Type 0 where
+  pub code : All (NamesBelow fn.values) fn.code
+  pub params : AreBelow fn.values fn.params
+
+abbrev pub EachNamesItsValues : Type 0
+EachNamesItsValues = (p : Program) (checks : List Ty) (b : Body) → IsBody p b → NamesItsValues (mid_fn_of p checks b)

@@ -1,6 +1,6 @@
 //! What the code of statements and bodies does.
 
-ghost use Rattle.lower_stmt.specs.Bounds.{EachCallsItsOwn, EachIsWithin};
+ghost use Rattle.lower_stmt.specs.Bounds.{EachCallsItsOwn, EachIsWithin, EachNamesItsValues};
 ghost use Rattle.lower_stmt.specs.Correct.{AllCallsRun, BehavesOn, EachIsLabelled, EachRootBehaves};
 ghost use Rattle.lower_stmt.specs.Runs.{StatementsRun};
 
@@ -42,4 +42,9 @@ pub fn frames_fit()
 /// A function calls the functions of those bodies alone that its body calls.
 pub fn calls_own()
     ensures { EachCallsItsOwn }
+{}
+
+/// A function names values that it has: each instruction of its code, and its parameters.
+pub fn values_named()
+    ensures { EachNamesItsValues }
 {}
