@@ -76,7 +76,7 @@ not_of t v n number other = by (int_eq n v) refl
         absurd (cc)
 
 -- a default is one of the cases
-default_inside : (cases : List Case) (count k : ℕ) → All (λ c. c.start < count) cases → start_of_default cases ≡ Some k → k < count
+pub default_inside : (cases : List Case) (count k : ℕ) → All (λ c. c.start < count) cases → start_of_default cases ≡ Some k → k < count
 default_inside [] count k all is = absurd (cc)
 default_inside (c ∷ cases) count k all is = by (is_none c.value) refl (default_inside cases count k (All-tail (λ x. x.start < count) c cases all))
   where

@@ -40,7 +40,7 @@ record Once (k lo n t : ℕ) : Type 0 where
   over : lo + n ≤ k → t ≡ 0
   most : t ≤ 1
 
-times_both : (k : ℕ) (a b : List Mid) → times k (a ++ b) ≡ times k a + times k b
+pub times_both : (k : ℕ) (a b : List Mid) → times k (a ++ b) ≡ times k a + times k b
 times_both k [] b = omega arith
 times_both k (i ∷ a) b =
     let r = times_both k a b in
@@ -411,6 +411,9 @@ body_fresh p checks b =
     tail 0 (stmt_labels b.code) (stmt_code p b.locals checks (spots_of p b) (base_of b) b.code (ways_of p b) 0) _
     (both_free (nothing_code b.result (base_of b + 2)) (Ret (taken_at b.result (base_of b + 2)) ∷ []) (nothing_free b.result (base_of b + 2)) (record { none = λ k. refl }))
     (stmt_fresh p b.locals checks (spots_of p b) (base_of b) b.code (ways_of p b) 0)
+
+pub once_each : (p : Program) (checks : List Ty) (b : Body) (l : ℕ) → times l (body_code p checks b) ≤ 1
+once_each p checks b l = ((body_fresh p checks b).once l).most
 
 fns_labelled : (p : Program) (checks : List Ty) (bodies : List Body) (f : ℕ) → IsLabelled (slice_index_or (map (mid_fn_of p checks) bodies) f no_fn).code
 fns_labelled p checks [] f = record { at = λ pc l h. absurd (cc) }

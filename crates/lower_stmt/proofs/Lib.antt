@@ -18,3 +18,5 @@ pub mod Labels
 pub mod Weighed
 pub mod OwnCalls
 pub mod Named
+pub mod Destinations
+pub mod Formed

@@ -33,7 +33,12 @@ use Rattle.expr_emitter.specs.Laws.{AreRegsBelow, AreSpotsBelow, NamesBelow}
 use Rattle.expr_emitter.proofs.Values.{names_below}
 use Rattle.lower_stmt.specs.Code.{Ways, back_code, case_code, cases_code, clear_code, clears_code, ends_code, enter_code, here_gives, in_atomic, in_here, in_loop, in_switch, kept_code, label_of, maybe_labels, nothing_code, result_code, return_code, returned_code, same_code, step_code, stmt_code, stmt_labels, stmts_code, switch_code, zero_bytes_code, zero_local_code, zero_regs_code}
 use Rattle.lower_stmt.specs.Bodies.{all_values, base_of, mid_fn_of, params_from, regs_from, spot_at, spots_from, spots_of, values_of, ways_of}
-use Rattle.lower_stmt.specs.Bounds.{NamesItsValues}
+use Rattle.mid_code.specs.declared.code.MidFn.{MidFn}
+
+-- a function names values that it has, in its code and as parameters
+pub record NamesItsValues (fn : MidFn) : Type 0 where
+  pub code : All (NamesBelow fn.values) fn.code
+  pub params : AreBelow fn.values fn.params
 
 module _ (n : ℕ) where
   -- each instruction names values below n

@@ -7,8 +7,7 @@ use Rattle.nesc_core.specs.Weights.{frame_weight}
 use Rattle.mid_code.specs.declared.instr.Mid.{Mid}
 use Rattle.mid_code.specs.declared.instr.Mid.TheVariants.{Call}
 use Rattle.mid_code.specs.declared.code.MidFn.{MidFn}
-use Rattle.mid_code.specs.Form.{AreBelow}
-use Rattle.expr_emitter.specs.Laws.{NamesBelow}
+use Rattle.mid_code.specs.Form.{IsMidFn}
 use Rattle.nesc_core.specs.WellFormed.{IsBody}
 use Rattle.lower_stmt.specs.Bodies.{mid_fn_of}
 
@@ -30,10 +29,6 @@ calls_in (i ∷ is) = calls_in is
 abbrev pub EachCallsItsOwn : Type 0
 EachCallsItsOwn = (p : Program) (checks : List Ty) (b : Body) → All (Contains (stmt_calls b.code)) (calls_in (mid_fn_of p checks b).code)
 
--- a function names values that it has, in its code and as parameters
-pub record NamesItsValues (fn : MidFn) : Type 0 where
-  pub code : All (NamesBelow fn.values) fn.code
-  pub params : AreBelow fn.values fn.params
-
-abbrev pub EachNamesItsValues : Type 0
-EachNamesItsValues = (p : Program) (checks : List Ty) (b : Body) → IsBody p b → NamesItsValues (mid_fn_of p checks b)
+-- a function keeps the rules of form: it names its own values, and labels that stand in its code, each once
+abbrev pub EachIsMidFn : Type 0
+EachIsMidFn = (p : Program) (checks : List Ty) (b : Body) → IsBody p b → IsMidFn (mid_fn_of p checks b)

@@ -1,6 +1,6 @@
 //! What the code of statements and bodies does.
 
-ghost use Rattle.lower_stmt.specs.Bounds.{EachCallsItsOwn, EachIsWithin, EachNamesItsValues};
+ghost use Rattle.lower_stmt.specs.Bounds.{EachCallsItsOwn, EachIsMidFn, EachIsWithin};
 ghost use Rattle.lower_stmt.specs.Correct.{AllCallsRun, BehavesOn, EachIsLabelled, EachRootBehaves};
 ghost use Rattle.lower_stmt.specs.Runs.{StatementsRun};
 
@@ -44,7 +44,8 @@ pub fn calls_own()
     ensures { EachCallsItsOwn }
 {}
 
-/// A function names values that it has: each instruction of its code, and its parameters.
-pub fn values_named()
-    ensures { EachNamesItsValues }
+/// The function of a body keeps the rules of form of middle code: each instruction names values of the function, and labels that stand
+/// in its code; no label stands twice.
+pub fn functions_formed()
+    ensures { EachIsMidFn }
 {}
