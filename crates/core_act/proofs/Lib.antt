@@ -1,4 +1,12 @@
 pub mod Telling
+pub mod Measures
+pub mod Forms
+pub mod StmtForms
+pub mod Valued
+pub mod LoopForms
+pub mod CallForms
+pub mod Smaller
+pub mod Walking
 pub mod Bytes
 pub mod PartBounds
 pub mod Sized

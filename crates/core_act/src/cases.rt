@@ -5,7 +5,10 @@ ghost use Rattle.core_act.specs.Told.{from_start};
 ghost use Rattle.core_meaning.specs.Work.{Work};
 ghost use Rattle.core_meaning.specs.declared.flow.Flow.{Flow};
 ghost use Rattle.nesc_core.specs.View.{case_of};
-ghost use Rattle.std.specs.Prelude.{◌≡◌, ℕ, map};
+ghost use Rattle.std.specs.Prelude.{◌≡◌, ℕ, drop, map};
+
+use nesc_core::CoreStmt;
+use nm_base::List;
 
 fn is_case(value: Option<i64>, v: i64) -> bool
     ensures { result ≡ flow.is_case value v }
@@ -47,5 +50,15 @@ pub(crate) fn start_of(cases: &[(Option<i64>, u32)], v: i64) -> Option<u32>
     match start_of_value(cases, v) {
         Some(k) => Some(k),
         None => start_of_default(cases),
+    }
+}
+
+/// The statements from this one on.
+pub(crate) fn statements_from(list: &List<CoreStmt>, k: usize) -> &[CoreStmt]
+    ensures { result.now ≡ drop k list.now }
+{
+    match list.as_slice().get(k..) {
+        None => &[],
+        Some(rest) => rest,
     }
 }

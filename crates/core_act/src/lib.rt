@@ -2,7 +2,9 @@
 #![tactic(auto)]
 
 mod access;
+mod actions;
 mod cases;
+mod changes;
 mod flow;
 mod given;
 mod law;
@@ -10,5 +12,7 @@ mod locals;
 mod log;
 mod places;
 mod scope;
+mod walk;
 
+pub use actions::act;
 pub use law::actions_grow;

@@ -1,0 +1,41 @@
+//! The actions of a body.
+
+ghost use Rattle.core_act.specs.Actions.{actions_of};
+ghost use Rattle.nesc_core.specs.View.{program_of};
+ghost use Rattle.nesc_core.specs.WellFormed.{IsWellFormed};
+ghost use Rattle.std.specs.Prelude.{◌≡◌, IfOk};
+
+use crate::log::Log;
+use crate::scope::Scope;
+use crate::walk::enter;
+use nesc_core::Program;
+use nm_base::{Action, NoMemory};
+use std::alloc::Global;
+
+/// The actions that a body without parameters performs, in order, when its Loads, Ins and Posts are answered by the list. They
+/// end after the first of these without an answer, and before the turn of a loop that would be its turn n + 1.
+pub fn act(
+    alloc: Global,
+    p: &Program,
+    body: u32,
+    answers: &[u16],
+    n: u32,
+) -> Result<Vec<Action>, NoMemory>
+    requires { IsWellFormed (program_of p.now) }
+    ensures { IfOk result (λ actions. actions.items ≡ actions_of (program_of p.now) body answers.now n) }
+{
+    let scope = Scope {
+        alloc,
+        program: p,
+        types: &[],
+        depth: p.bodies.as_slice().len(),
+        turns: n,
+    };
+    let mut log = Log {
+        did: Vec::new(alloc),
+        left: answers,
+        over: false,
+    };
+    enter(&scope, body, &[], &mut log)?;
+    Ok(log.did)
+}
