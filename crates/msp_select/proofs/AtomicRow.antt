@@ -17,16 +17,18 @@ use Rattle.nm_base.specs.declared.action.Action.TheVariants as action
 use Rattle.open_law.specs.Homes.{Home}
 use Rattle.mid_code.specs.declared.code.MidFn.{MidFn}
 use Rattle.mid_code.specs.declared.instr.Mid.{Mid}
-use Rattle.mid_code.specs.declared.instr.Mid.TheVariants.{Set, Out, Ret, Begin, End, Tick}
+use Rattle.mid_code.specs.declared.instr.Mid.TheVariants.{Set, Out, Help, Ret, Begin, End, Tick}
 use Rattle.mid_code.specs.Form.{EndsElsewhere, FitsProgram, IsMidCode, IsMidFn, NamesOwn, labels_named, times, values_read, values_written}
 use Rattle.mid_code.specs.Machine.{Activation, Goes, fn_of, moved, place_of, step}
 use Rattle.mid_code.specs.Reached.{AllMayGoOn, KeepsForm, innermost_instruction, opens_at, state_at}
-use Rattle.msp_select.specs.AtomicRow.{AtomicRowIsOpen, code, fn, image, left, marks, places}
+use Rattle.msp_select.specs.AtomicRow.{AtomicRowIsOpen, AtomicRowIsPaced, code, fn, image, left, marks, places, weight}
 use Rattle.msp_select.specs.Frames.{count_pushed, frame_home, own_bytes}
 use Rattle.msp_select.specs.Select.{entry_of, parts_of}
-use Rattle.msp_select.specs.Sound.{IsDeep, IsDeeper, IsOfObjects, IsSelectable, PartStands, PartsStand}
+use Rattle.msp_select.specs.Sound.{IsDeep, IsDeeper, IsOfObjects, IsSelectable, IsSelected, PartStands, PartsStand}
 use Rattle.msp_select.proofs.Frames.{frames_fit}
+use Rattle.msp_select.specs.Weight.{size_of}
 use Rattle.msp_select.proofs.Selected.{selected}
+use Rattle.msp_select.proofs.Weighing.{paced}
 
 all_none : {A : Type 0} (P : A → Type 0) → All P []
 all_none P k d lt = absurd (omega (arith, lt))
@@ -297,14 +299,26 @@ short_call : (f : ℕ) → f < 1 → count_pushed (fn_of code f).params + 1 < 8
 short_call zero lt = omega arith
 short_call (suc f) lt = absurd (omega (arith, lt))
 
-pub atomic_row : AtomicRowIsOpen
-atomic_row = selected code homes own four left 6 8 0 0 0x1100 image marks entries places (record {
+no_help : (f at h : ℕ) (ins outs : List ℕ) → slice_get (fn_of code f).code at ≡ Some (Help h ins outs) → ⊥
+no_help zero zero h ins outs e = cc
+no_help zero (suc zero) h ins outs e = cc
+no_help zero (suc (suc zero)) h ins outs e = cc
+no_help zero (suc (suc (suc zero))) h ins outs e = cc
+no_help zero (suc (suc (suc (suc zero)))) h ins outs e = cc
+no_help zero (suc (suc (suc (suc (suc zero))))) h ins outs e = cc
+no_help zero (suc (suc (suc (suc (suc (suc at)))))) h ins outs e = cc
+no_help (suc f) at h ins outs e = cc
+
+abbrev is_selected : IsSelected code homes own four left 6 8 0 0 0x1100 image marks entries places
+is_selected = record {
   form = form;
   keeps = keeps;
   selectable = selectable;
   framed = λ f lt. frames_fit code four f;
   depths = deeper;
   standing = record { even_entry = λ f lt. refl; small_entry = λ f lt. omega arith; even_place = even_places; small_place = small_places; entry = entry_standing; body = body_stands };
+  most_help = 0;
+  routines = λ f at h ins outs e. absurd (no_help f at h ins outs e);
   objects = record { always = λ answers words n. touches answers n };
   paced = record { few = λ answers words n. few answers n; fewer = λ answers words n s e. fewer answers n s e };
   is = omega arith;
@@ -313,5 +327,48 @@ atomic_row = selected code homes own four left 6 8 0 0 0x1100 image marks entrie
   low_end = omega arith;
   entry = short_entry;
   call = short_call;
+  help = omega arith;
   least = omega arith;
-})
+}
+
+pub atomic_row : AtomicRowIsOpen
+atomic_row = selected code homes own four left 6 8 0 0 0x1100 image marks entries places is_selected
+
+-- ---- and what it weighs
+
+module _ (answers : ℕ → ℕ) where
+  light : (n : ℕ) → weight (state_at code 0 answers n) ≤ 8
+  light zero = omega arith
+  light (suc zero) = omega arith
+  light (suc (suc zero)) = omega arith
+  light (suc (suc (suc zero))) = omega arith
+  light (suc (suc (suc (suc zero)))) = omega arith
+  light (suc (suc (suc (suc (suc zero))))) = omega arith
+  light (suc (suc (suc (suc (suc (suc n)))))) = subst (λ s. weight s ≤ 8) (sym (ended answers n)) (omega arith)
+
+  holds : (n : ℕ) → size_of code own 0 (innermost_instruction code (state_at code 0 answers n)) ≤ weight (state_at code 0 answers n)
+  holds zero = omega arith
+  holds (suc zero) = omega arith
+  holds (suc (suc zero)) = omega arith
+  holds (suc (suc (suc zero))) = omega arith
+  holds (suc (suc (suc (suc zero)))) = omega arith
+  holds (suc (suc (suc (suc (suc zero))))) = omega arith
+  holds (suc (suc (suc (suc (suc (suc n)))))) = subst (λ s. size_of code own 0 (innermost_instruction code s) ≤ weight s) (sym (ended answers n)) (omega arith)
+
+  falls : (n : ℕ) (s : List Activation) → step code (state_at code 0 answers n) ≡ Goes s → weight s + size_of code own 0 (innermost_instruction code (state_at code 0 answers n)) ≤ weight (state_at code 0 answers n)
+  falls zero s e = subst (λ x. weight x + 1 ≤ 8) (goes_to answers _ s e) (omega arith)
+  falls (suc zero) s e = absurd (let z : ⊥ = cc in z)
+  falls (suc (suc zero)) s e = absurd (let z : ⊥ = cc in z)
+  falls (suc (suc (suc zero))) s e = absurd (let z : ⊥ = cc in z)
+  falls (suc (suc (suc (suc zero)))) s e = absurd (let z : ⊥ = cc in z)
+  falls (suc (suc (suc (suc (suc zero))))) s e = absurd (let z : ⊥ = cc in z)
+  falls (suc (suc (suc (suc (suc (suc n)))))) s e = absurd (none (state_at code 0 answers (suc (suc (suc (suc (suc (suc n))))))) (ended answers n) e)
+    where
+      none : (x : List Activation) → x ≡ [] → step code x ≡ Goes s → ⊥
+      none [] h k = cc
+      none (a ∷ rest) h k = cc
+
+pub atomic_row_paced : AtomicRowIsPaced
+atomic_row_paced =
+    paced code homes own four left 6 8 0 0 0x1100 image marks entries places is_selected weight 8
+    (record { few = λ answers words n. light answers n; holds = λ answers words n. holds answers n; falls = λ answers words n s e. falls answers n s e })

@@ -30,7 +30,7 @@ use Rattle.msp_select.specs.Sound.{IsDeeper, PartsStand}
 use Rattle.msp_select.proofs.Reached.{goes}
 use Rattle.msp_select.proofs.Relation.{Setting, Callers, Here, IsCaller, Placed, ToldAt, fn, labels, moved, settled}
 use Rattle.msp_select.proofs.Kept.{Premises, SameFrom, callers_on, placed_on, ready, word_on, words_of}
-use Rattle.msp_select.proofs.Doing.{Piece, Stand, begun, behind_one, end, few_left, fits, marked, names, one, placed, stands, stepped}
+use Rattle.msp_select.proofs.Doing.{EntersBy, Piece, Stand, begun, behind_one, end, few_left, fits, marked, names, one, placed, stands, stepped}
 
 abbrev pub longer_by : List ℕ → ℕ → ℕ
 longer_by [] n = n
@@ -267,24 +267,27 @@ module _ (S : Setting) (left : List Activation → ℕ) (most : ℕ) (P : Premis
           } in
           let below = callers_on S v.stack stack1 h.first (v.sp + S.own a.f) a.f rest h.outer (λ b le far. all b (omega (arith, le))) h.callers in
           one S left most P a rest v h m0 made0 few since 0 u w t refl (call S.image S.data_end S.marks S.c.sp u (S.entries g) (ready S left most P u t) (omega (arith, split, lo, depth, room)) at (P.standing.even_entry g fit.0) (P.standing.small_entry g fit.0))
-          (begun S left most P a rest v h m0 made0 few since (entry S.code g (map a.values ins)) (a ∷ rest) w next bound (inl (record {
-            outer = h.opens ∷ h.outer;
-            function = fit.0;
-            at = refl;
-            frame = λ o. refl;
-            zero = λ y none. put_all_apart (λ i. 0) (fn_of S.code g).params (map a.values ins) y none;
-            passed = λ y is.
-                let r = there' y is in
-                let up : base - 2 + 2 ≡ base = omega (arith, deep') in (
-                  ap (λ s. word_in stack1 (s + 2 * pushed_behind (fn_of S.code g).params y)) up
-                      ∙ word_on stack stack1 (base + 2 * pushed_behind (fn_of S.code g).params y) (over (base + 2 * pushed_behind (fn_of S.code g).params y) (omega arith)) (over (base + 2 * pushed_behind (fn_of S.code g).params y + 1) (omega arith)) ∙ r.0,
-                  r.1,
-                );
-            pc = refl;
-            callers = (h.first, caller, subst (λ s. Callers S stack1 h.first (s + S.own a.f) a.f rest h.outer) (sym at_a) below);
-            low = omega (arith, split, lo, depth);
-            room = omega (arith, split, ro, deep');
-            reached = reached;
-            nest = h.nest;
-            told = t2;
-          })))
+          (begun S left most P a rest v h m0 made0 few since (entry S.code g (map a.values ins)) (a ∷ rest) w next bound (inl (
+            record {
+              outer = h.opens ∷ h.outer;
+              function = fit.0;
+              at = refl;
+              frame = λ o. refl;
+              zero = λ y none. put_all_apart (λ i. 0) (fn_of S.code g).params (map a.values ins) y none;
+              passed = λ y is.
+                  let r = there' y is in
+                  let up : base - 2 + 2 ≡ base = omega (arith, deep') in (
+                    ap (λ s. word_in stack1 (s + 2 * pushed_behind (fn_of S.code g).params y)) up
+                        ∙ word_on stack stack1 (base + 2 * pushed_behind (fn_of S.code g).params y) (over (base + 2 * pushed_behind (fn_of S.code g).params y) (omega arith)) (over (base + 2 * pushed_behind (fn_of S.code g).params y + 1) (omega arith)) ∙ r.0,
+                    r.1,
+                  );
+              pc = refl;
+              callers = (h.first, caller, subst (λ s. Callers S stack1 h.first (s + S.own a.f) a.f rest h.outer) (sym at_a) below);
+              low = omega (arith, split, lo, depth);
+              room = omega (arith, split, ro, deep');
+              reached = reached;
+              nest = h.nest;
+              told = t2;
+            },
+            subst (EntersBy S left most P a rest v h m0 made0 few since) (sym e) tt,
+          )))

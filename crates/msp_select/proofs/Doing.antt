@@ -1,5 +1,5 @@
 -- The rules by which the code of an instruction of the middle code is a chain.
-use Rattle.std.proofs.Common.{◌≡◌, ◌≢◌, ◌⊎◌, ⊎_elim, ℕ, suc, ◌+◌, ◌*◌, ◌%◌, ◌<◌, ◌≤◌, ◌==◌, Bool, true, false, cond, List, [], ◌∷◌, ◌++◌, length, length-append, Some, refl, sym, ap, ◌∙◌, subst, arith}
+use Rattle.std.proofs.Common.{◌≡◌, ◌≢◌, ◌⊎◌, ⊎_elim, ℕ, suc, ◌+◌, ◌*◌, ◌%◌, ◌<◌, ◌≤◌, ◌==◌, Bool, true, false, cond, List, [], ◌∷◌, ◌++◌, length, length-append, Option, Some, refl, sym, ap, ◌∙◌, subst, arith}
 use mathlib.Core.Logic.{inl, inr}
 use Rattle.std.proofs.lemmas.Bool.Decides.{nat_tests, eqb_tells}
 use Rattle.nm_base.specs.Lists.{bit, IsPrefixOf, number_of}
@@ -18,7 +18,7 @@ use Rattle.msp_isa.specs.Encode.{encoded, further_word, before_words}
 use Rattle.msp430_cpu.specs.Cpu.{changed_at, even}
 use Rattle.msp430_cpu.specs.Exec.{further}
 use Rattle.mid_code.specs.declared.instr.Mid.{Mid}
-use Rattle.mid_code.specs.declared.instr.Mid.TheVariants.{Set, Move, Bin, Load, Store, Peek, Poke, In, Out, Tick, Fault}
+use Rattle.mid_code.specs.declared.instr.Mid.TheVariants.{Set, Move, Bin, Load, Store, Peek, Poke, In, Out, Call, Help, Ret, Tick, Fault}
 use Rattle.mid_code.specs.declared.instr.Op.{Op}
 use Rattle.mid_code.specs.Words as words
 use Rattle.msp430_cpu.specs.Operate.{operate}
@@ -175,8 +175,29 @@ module _ (S : Setting) (left : List Activation → ℕ) (most : ℕ) (P : Premis
       abbrev pub NextOne : View → View → Type 0
       NextOne = NextOf S.gives (act S) S.image S.data_end (S.deep S.root) S.marks S.c S.ram
 
+      -- by a step, or behind an action
+      abbrev pub Came : List Activation → View → Type 0
+      Came s w = (step S.code (a ∷ rest) ≡ Goes s) ⊎ (length w.made ≢ length made0)
+
+      -- a function begins behind a Call alone, and a call resumes behind a Ret or a Help
+      abbrev pub EntersBy : Option Mid → Type 0
+      EntersBy (Some (Call g ins outs)) = Unit {0}
+      EntersBy _ = ⊥
+
+      abbrev pub ResumesBy : Option Mid → Type 0
+      ResumesBy (Some (Ret vs)) = Unit {0}
+      ResumesBy (Some (Help k ins outs)) = Unit {0}
+      ResumesBy _ = ⊥
+
+      abbrev pub Begins : Activation → List Activation → View → Type 0
+      Begins g more w = (Entering S g more w × EntersBy (instruction S.code a)) ⊎ (Resuming S g more w × ResumesBy (instruction S.code a))
+
+      -- the relation, and how it came about
+      abbrev pub Onward : ℕ → View → Type 0
+      Onward m w = (g : Activation) × (more : List Activation) × ((Here S g more w × (m ≡ 2 * left (g ∷ more)) × Came (g ∷ more) w) ⊎ (Begins g more w × (m ≡ 2 * left (g ∷ more) + 1) × (step S.code (a ∷ rest) ≡ Goes (g ∷ more))))
+
       abbrev pub After : View → Type 0
-      After = Post S.gives (act S) S.image S.data_end (S.deep S.root) S.marks S.c S.ram (2 * most + 1) Rel m0 made0
+      After = Post S.gives (act S) S.image S.data_end (S.deep S.root) S.marks S.c S.ram (2 * most + 1) Onward m0 made0
 
       abbrev pub Piece : ℕ → View → Type 0
       Piece n u = Chain S.image S.data_end S.marks S.c.sp (GoodOne S) NextOne After n u
@@ -199,12 +220,12 @@ module _ (S : Setting) (left : List Activation → ℕ) (most : ℕ) (P : Premis
       silent g more w e here =
           let less = fewer_left (a ∷ rest) (g ∷ more) (h.opens ∷ h.outer) v.made v.answers h.reached e in
           let bound = few_left (g ∷ more) (here.opens ∷ here.outer) w.made w.answers here.reached in
-          inr (2 * left (g ∷ more), omega arith, (g, more, inl (here, refl)), inl (omega arith))
+          inr (2 * left (g ∷ more), omega arith, (g, more, inl (here, refl, inl e)), inl (omega arith))
 
-      pub begun : (g : Activation) (more : List Activation) (w : View) → step S.code (a ∷ rest) ≡ Goes (g ∷ more) → left (g ∷ more) ≤ most → Entering S g more w ⊎ Resuming S g more w → After w
+      pub begun : (g : Activation) (more : List Activation) (w : View) → step S.code (a ∷ rest) ≡ Goes (g ∷ more) → left (g ∷ more) ≤ most → Begins g more w → After w
       begun g more w e bound here =
           let less = fewer_left (a ∷ rest) (g ∷ more) (h.opens ∷ h.outer) v.made v.answers h.reached e in
-          inr (2 * left (g ∷ more) + 1, omega arith, (g, more, inr (here, refl)), inl (omega arith))
+          inr (2 * left (g ∷ more) + 1, omega arith, (g, more, inr (here, refl, e)), inl (omega arith))
 
       longer : (did' : Action) → length (v.made ++ (did' ∷ [])) ≢ length made0
       longer did' p =
@@ -215,7 +236,8 @@ module _ (S : Setting) (left : List Activation → ℕ) (most : ℕ) (P : Premis
       pub acted : (g : Activation) (more : List Activation) (w : View) (did' : Action) → Here S g more w → w.made ≡ v.made ++ (did' ∷ []) → After w
       acted g more w did' here made =
           let bound = few_left (g ∷ more) (here.opens ∷ here.outer) w.made w.answers here.reached in
-          inr (2 * left (g ∷ more), omega arith, (g, more, inl (here, refl)), inr (λ p. longer did' (ap length (sym made) ∙ p)))
+          let new : length w.made ≢ length made0 = λ p. longer did' (ap length (sym made) ∙ p) in
+          inr (2 * left (g ∷ more), omega arith, (g, more, inl (here, refl, inr new)), inr new)
 
       -- MOV of a value to a register from R12 on
       abbrev pub held : (x r : ℕ) → View

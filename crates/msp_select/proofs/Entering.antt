@@ -32,7 +32,7 @@ use Rattle.msp_select.specs.Sound.{IsFramed}
 use Rattle.msp_select.proofs.Flags.{has_literal, tame}
 use Rattle.msp_select.proofs.Relation.{total, Setting, Callers, Entering, GoodOne, Here, Told, ToldAt, act, flagged, fn, good, moved, settled}
 use Rattle.msp_select.proofs.Kept.{Premises, callers_on, home_in, kept_of, ready, word_on, words_of}
-use Rattle.msp_select.proofs.Doing.{Rel, Stand, behind_one, behind_two, few_left, marked}
+use Rattle.msp_select.proofs.Doing.{Stand, behind_one, behind_two, few_left, marked}
 
 abbrev pub many : ℕ → ℕ → ℕ
 many zero r = r
@@ -52,8 +52,12 @@ turns_is zero r = omega arith
 turns_is (suc n) r = let h = turns_is n r in omega (arith, h)
 
 module _ (S : Setting) (left : List Activation → ℕ) (most : ℕ) (P : Premises S left most) (a : Activation) (rest : List Activation) (v : View) (h : Entering S a rest v) (m0 : ℕ) (made0 : List Action) (few : 2 * left (a ∷ rest) < m0) where
-  abbrev After : View → Type 0
-  After = Post S.gives (act S) S.image S.data_end (S.deep S.root) S.marks S.c S.ram (2 * most + 1) (Rel S left most P) m0 made0
+  -- the same call, at an instruction
+  abbrev pub Same : ℕ → View → Type 0
+  Same m w = Here S a rest w × (m ≡ 2 * left (a ∷ rest))
+
+  abbrev pub After : View → Type 0
+  After = Post S.gives (act S) S.image S.data_end (S.deep S.root) S.marks S.c S.ram (2 * most + 1) Same m0 made0
 
   abbrev pub Piece : ℕ → View → Type 0
   Piece n u = Chain S.image S.data_end S.marks S.c.sp (GoodOne S) (NextOf S.gives (act S) S.image S.data_end (S.deep S.root) S.marks S.c S.ram) After n u
@@ -147,7 +151,7 @@ module _ (S : Setting) (left : List Activation → ℕ) (most : ℕ) (P : Premis
   goes_on : (w : View) → Here S a rest w → After w
   goes_on w here =
       let bound = few_left S left most P (a ∷ rest) (here.opens ∷ here.outer) w.made w.answers here.reached in
-      inr (2 * left (a ∷ rest), omega arith, (a, rest, inl (here, refl)), inl (omega arith))
+      inr (2 * left (a ∷ rest), omega arith, (here, refl), inl (omega arith))
 
   abbrev at_sp : ℕ → ℕ → ℕ → Bool → (ℕ → ℕ) → (ℕ → ℕ) → View
   at_sp pc sp sr gate regs stack = record v { pc = pc; sp = sp; sr = sr; gate = gate; regs = regs; stack = stack }

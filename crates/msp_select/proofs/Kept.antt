@@ -9,6 +9,7 @@ use Rattle.nm_base.specs.Lists.{bit}
 use Rattle.msp_isa.specs.Stands.{word_in}
 use Rattle.msp430_cpu.specs.Cpu.{even}
 use Rattle.mid_code.specs.declared.instr.Mid.{Mid}
+use Rattle.mid_code.specs.declared.instr.Mid.TheVariants.{Help}
 use Rattle.mid_code.specs.Form.{IsMidCode}
 use Rattle.mid_code.specs.Machine.{Activation, at_place, fn_of, put}
 use Rattle.mid_code.specs.Reached.{KeepsForm}
@@ -17,7 +18,8 @@ use Rattle.open_law.proofs.View.{View, IsRoomAt}
 use Rattle.open_law.proofs.Quiet.{HasAt, IsHomeAt, held_at, put_regs, put_stack}
 use Rattle.open_law.proofs.Homes.{held_same, held_other, held_scratch}
 use Rattle.open_law.proofs.Law.{IsStart}
-use Rattle.msp_select.specs.Select.{raised, takes}
+use Rattle.msp_select.specs.Routine.{IsRoutine}
+use Rattle.msp_select.specs.Select.{raised, routine_of, takes}
 use Rattle.msp_select.specs.Sound.{IsSelectable, IsDeep, IsFramed, IsPaced, IsPlace, IsStanding, PartsStand, TouchesObjects, parameters}
 use Rattle.msp_select.proofs.Relation.{Setting, Callers, IsFree, IsSlot, Placed, Saved, Told, fn, labels}
 
@@ -29,6 +31,8 @@ pub record Premises (S : Setting) (left : List Activation → ℕ) (most : ℕ) 
   pub framed : (f : ℕ) → f < length S.code.fns → IsFramed S.code S.homes S.own S.deep f
   pub deep : (f : ℕ) → f < length S.code.fns → IsDeep S.code S.homes S.own S.deep f
   pub standing : IsStanding S.code S.homes S.own S.deep S.image S.marks S.entries S.places
+  pub most_help : ℕ
+  pub routines : (f at h : ℕ) (ins outs : List ℕ) → slice_get (fn_of S.code f).code at ≡ Some (Help h ins outs) → IsRoutine S.code S.image S.data_end S.marks h (S.entries (routine_of (length S.code.fns) h)) most_help
   pub objects : TouchesObjects S.code S.root S.data_end
   pub paced : IsPaced S.code S.root left most
   pub root : S.root < length S.code.fns

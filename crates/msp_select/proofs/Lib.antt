@@ -13,7 +13,12 @@ pub mod Calling
 pub mod Returning
 pub mod Resuming
 pub mod Entering
+pub mod Following
+pub mod Helping
+pub mod Turning
+pub mod Weighted
 pub mod Selected
+pub mod Weighing
 pub mod AtomicRow
 pub mod Bounds
 pub mod Laid

@@ -25,11 +25,15 @@ use Rattle.msp_select.proofs.Nest.{nested}
 use Rattle.msp_select.proofs.Reached.{Reached}
 use Rattle.msp_select.proofs.Relation.{Setting, AreIn, Callers, GoodOne, Here, Placed, Resuming, Told, ToldAt, act, flagged, fn, good, moved, settled}
 use Rattle.msp_select.proofs.Kept.{Premises, callers_wrote, home_of, placed_wrote, ready}
-use Rattle.msp_select.proofs.Doing.{Rel, Stand, behind_two, few_left, marked}
+use Rattle.msp_select.proofs.Doing.{Stand, behind_two, few_left, marked}
 
 module _ (S : Setting) (left : List Activation → ℕ) (most : ℕ) (P : Premises S left most) (a : Activation) (rest : List Activation) (v : View) (h : Resuming S a rest v) (m0 : ℕ) (made0 : List Action) (few : 2 * left (a ∷ rest) < m0) where
-  abbrev After : View → Type 0
-  After = Post S.gives (act S) S.image S.data_end (S.deep S.root) S.marks S.c S.ram (2 * most + 1) (Rel S left most P) m0 made0
+  -- the same call, at an instruction
+  abbrev pub Same : ℕ → View → Type 0
+  Same m w = Here S a rest w × (m ≡ 2 * left (a ∷ rest))
+
+  abbrev pub After : View → Type 0
+  After = Post S.gives (act S) S.image S.data_end (S.deep S.root) S.marks S.c S.ram (2 * most + 1) Same m0 made0
 
   abbrev pub Piece : ℕ → View → Type 0
   Piece n u = Chain S.image S.data_end S.marks S.c.sp (GoodOne S) (NextOf S.gives (act S) S.image S.data_end (S.deep S.root) S.marks S.c S.ram) After n u
@@ -50,7 +54,7 @@ module _ (S : Setting) (left : List Activation → ℕ) (most : ℕ) (P : Premis
   goes_on : (w : View) → Here S a rest w → After w
   goes_on w here =
       let bound = few_left S left most P (a ∷ rest) (here.opens ∷ here.outer) w.made w.answers here.reached in
-      inr (2 * left (a ∷ rest), omega arith, (a, rest, inl (here, refl)), inl (omega arith))
+      inr (2 * left (a ∷ rest), omega arith, (here, refl), inl (omega arith))
 
   -- what is still to be taken
   pub record Taking (taken given : List ℕ) (r : ℕ) (u : View) : Type 0 where

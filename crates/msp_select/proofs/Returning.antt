@@ -34,21 +34,21 @@ use Rattle.msp_select.proofs.Flags.{has_literal, tame}
 use Rattle.msp_select.proofs.Reached.{ended, goes}
 use Rattle.msp_select.proofs.Relation.{Setting, AreIn, Callers, Here, Saved, ToldAt, act, clash, flagged, fn, labels, moved, settled, total}
 use Rattle.msp_select.proofs.Kept.{Premises, all_get, has, ready, words_of}
-use Rattle.msp_select.proofs.Doing.{After, Piece, Stand, begun, behind_two, end, few_left, fits, marked, may, names, one, placed, stands, stepped}
+use Rattle.msp_select.proofs.Doing.{After, Piece, ResumesBy, Stand, begun, behind_two, end, few_left, fits, marked, may, names, one, placed, stands, stepped}
 
 module _ (S : Setting) (left : List Activation → ℕ) (most : ℕ) (P : Premises S left most) (a : Activation) (rest : List Activation) (v : View) (h : Here S a rest v) (m0 : ℕ) (made0 : List Action) (few : 2 * left (a ∷ rest) ≤ m0) (since : v.made ≡ made0) where
   -- with other registers
-  abbrev holding : ℕ → Bool → (ℕ → ℕ) → View
+  abbrev pub holding : ℕ → Bool → (ℕ → ℕ) → View
   holding pc gate regs = record v { pc = pc; gate = gate; regs = regs }
 
-  set_low : (regs : ℕ → ℕ) (q n : ℕ) → 12 ≤ q → ((r : ℕ) → r < 12 → regs r ≡ v.regs r) → (r : ℕ) → r < 12 → changed_at regs q n r ≡ v.regs r
+  pub set_low : (regs : ℕ → ℕ) (q n : ℕ) → 12 ≤ q → ((r : ℕ) → r < 12 → regs r ≡ v.regs r) → (r : ℕ) → r < 12 → changed_at regs q n r ≡ v.regs r
   set_low regs q n le low r lt = let t : (r == q) ≡ false = grind (arith, nat_tests) in rw t (low r lt)
 
-  set_here : (regs : ℕ → ℕ) (q n : ℕ) → changed_at regs q n q ≡ n
+  pub set_here : (regs : ℕ → ℕ) (q n : ℕ) → changed_at regs q n q ≡ n
   set_here regs q n = ap (λ b. cond b n (regs q)) (eq-eqb q q refl)
 
   -- values go to R12 and R13
-  one_given : (x q n : ℕ) (tail : List Part) (pc : ℕ) (gate : Bool) (regs : ℕ → ℕ) → x < (fn S a).values → 12 ≤ q → q < 14 → ((r : ℕ) → r < 12 → regs r ≡ v.regs r) →
+  pub one_given : (x q n : ℕ) (tail : List Part) (pc : ℕ) (gate : Bool) (regs : ℕ → ℕ) → x < (fn S a).values → 12 ≤ q → q < 16 → ((r : ℕ) → r < 12 → regs r ≡ v.regs r) →
       Stand S a.f pc (record { silent = []; item = item.Is (Two op2.Mov false (operand_of (Of (S.homes a.f x))) (at_home (InRegister q))) } ∷ tail) (end S left most P a rest v h m0 made0 few since) → ToldAt S v.made v.answers v.sp v.sr gate v.faulted →
       (Stand S a.f (pc + (2 + further (at_home (S.homes a.f x)) + 0)) tail (end S left most P a rest v h m0 made0 few since) → Piece S left most P a rest v h m0 made0 few since n (holding (pc + (2 + further (at_home (S.homes a.f x)) + 0)) (bit v.sr 3) (changed_at regs q (a.values x)))) → Piece S left most P a rest v h m0 made0 few since (suc n) (holding pc gate regs)
   one_given x q n tail pc gate regs lx lo hi low st t next =
@@ -186,35 +186,38 @@ module _ (S : Setting) (left : List Activation → ℕ) (most : ℕ) (P : Premis
             let lo = p.low in let ro = p.room in let es = p.even_sp in
             let depth = (P.deep k.f p.function).least in
             let steps' = subst (IsDeeper S.code S.homes S.own S.deep k.f) r.call ((P.deep k.f p.function).calls k.at) in
-            begun S left most P a rest v h m0 made0 few since g more (returned sr regs) next bound (inr (record {
-              opens = opens;
-              outer = outer;
-              first = c.0;
-              words = words;
-              taken = r.taken;
-              given = xs;
-              before = k.values;
-              values = refl;
-              in_registers = are;
-              many = fits'.2 ∙ sym gives_many ∙ sym (lengths vs);
-              few = (let two = P.form.at_most_two a.f in let f2 = fits'.2 in omega (arith, two, f2));
-              below = names'.written;
-              placed = record {
-                function = p.function;
-                values = p.values;
-                bytes = p.bytes;
-                saved = subst (λ q. Saved S k.f v.stack (back_at + 2 + 2 * words) q opens c.0) (sym gie') p.saved;
-                low = p.low;
-                room = p.room;
-                even_sp = p.even_sp;
-              };
-              callers = c.2;
-              place = behind (fn S k).code k.at (Call a.f r.passed r.taken) (own_end S.code P.form k.f p.function) r.call refl;
-              stands = subst (λ q. PartsStand S.image S.marks S.entries (labels S k.f) q (raised (2 * words) ++ takes S.code (S.homes k.f) (S.own k.f) 12 r.taken) (S.places k.f (k.at + 1))) (sym r.even_ret) r.stands;
-              reached = reached;
-              nest = shallow ∙ ap (total S) eo;
-              told = t (back_at + 2) (omega (arith, lo, depth, steps')) (omega (arith, ro)) (omega (arith, es));
-            }))
+            begun S left most P a rest v h m0 made0 few since g more (returned sr regs) next bound (inr (
+              record {
+                opens = opens;
+                outer = outer;
+                first = c.0;
+                words = words;
+                taken = r.taken;
+                given = xs;
+                before = k.values;
+                values = refl;
+                in_registers = are;
+                many = fits'.2 ∙ sym gives_many ∙ sym (lengths vs);
+                few = (let two = P.form.at_most_two a.f in let f2 = fits'.2 in omega (arith, two, f2));
+                below = names'.written;
+                placed = record {
+                  function = p.function;
+                  values = p.values;
+                  bytes = p.bytes;
+                  saved = subst (λ q. Saved S k.f v.stack (back_at + 2 + 2 * words) q opens c.0) (sym gie') p.saved;
+                  low = p.low;
+                  room = p.room;
+                  even_sp = p.even_sp;
+                };
+                callers = c.2;
+                place = behind (fn S k).code k.at (Call a.f r.passed r.taken) (own_end S.code P.form k.f p.function) r.call refl;
+                stands = subst (λ q. PartsStand S.image S.marks S.entries (labels S k.f) q (raised (2 * words) ++ takes S.code (S.homes k.f) (S.own k.f) 12 r.taken) (S.places k.f (k.at + 1))) (sym r.even_ret) r.stands;
+                reached = reached;
+                nest = shallow ∙ ap (total S) eo;
+                told = t (back_at + 2) (omega (arith, lo, depth, steps')) (omega (arith, ro)) (omega (arith, es));
+              },
+              subst (ResumesBy S left most P a rest v h m0 made0 few since) (sym e) tt,
+            ))
 
     leaves : (sr : ℕ) (regs : ℕ → ℕ) (r : List Activation) → rest ≡ r → Callers S v.stack (bit v.sr 3) back_at a.f r h.outer → bit sr 3 ≡ bit v.sr 3 → AreIn S 12 (map a.values vs) regs → ((sp : ℕ) → S.c.sp ≤ sp + S.deep S.root → sp ≤ S.c.sp → even sp ≡ sp → ToldAt S v.made v.answers sp sr (bit sr 3) v.faulted) →
         After S left most P a rest v h m0 made0 few since (returned sr regs)

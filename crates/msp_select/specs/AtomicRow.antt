@@ -41,3 +41,12 @@ left (a ∷ rest) = 6 - a.at
 
 abbrev pub AtomicRowIsOpen : Type 0
 AtomicRowIsOpen = IsOpenFunction image 0x1100 marks 0 (body_of code 0) 0x4000 4 (8 * (2 * 6 + 3))
+
+-- how many instructions are ahead: Set has one, and Ret has four, with three of its caller
+abbrev pub weight : List Activation → ℕ
+weight [] = 0
+weight (a ∷ rest) = if a.at == 0 then 8 else 7
+
+-- seven instructions of the entry, and eight of the longest piece
+abbrev pub AtomicRowIsPaced : Type 0
+AtomicRowIsPaced = IsOpenFunction image 0x1100 marks 0 (body_of code 0) 0x4000 4 (8 + 7 + 8 + 2)

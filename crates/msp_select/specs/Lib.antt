@@ -4,3 +4,5 @@ pub mod Sound
 pub mod Laid
 pub mod AtomicRow
 pub mod Rows
+pub mod Routine
+pub mod Weight

@@ -15,7 +15,8 @@ use Rattle.mid_code.specs.Reached.{KeepsForm, bytes, innermost_instruction, stat
 use Rattle.open_law.specs.Homes.{Home, InRegister, InFrame, Apart, place_in}
 use Rattle.open_law.specs.Body.{IsOpenFunction}
 use Rattle.msp_select.specs.Frames.{count_pushed, frame_home, is_among, own_bytes, pushed_behind}
-use Rattle.msp_select.specs.Select.{Part, entry_of, parts_of}
+use Rattle.msp_select.specs.Routine.{IsRoutine, routine_stack}
+use Rattle.msp_select.specs.Select.{Part, entry_of, parts_of, routine_of}
 
 -- ---- where code stands
 
@@ -63,6 +64,7 @@ module _ (code : MidCode) (homes : ℕ → ℕ → Home) (own deep : ℕ → ℕ
 
   abbrev pub IsDeeper : ℕ → Option Mid → Type 0
   IsDeeper f (Some (Call g ins outs)) = own f + 2 * parameters g + 2 + deep g ≤ deep f
+  IsDeeper f (Some (Help h ins outs)) = own f + routine_stack ≤ deep f
   IsDeeper f _ = Unit {0}
 
   pub record IsDeep (f : ℕ) : Type 0 where
@@ -99,12 +101,11 @@ pub record IsPaced (code : MidCode) (root : ℕ) (left : List Activation → ℕ
   pub few : (answers : ℕ → ℕ) → IsAnswers answers → (n : ℕ) → left (state_at code root answers n) ≤ most
   pub fewer : (answers : ℕ → ℕ) → IsAnswers answers → (n : ℕ) (s : List Activation) → step code (state_at code root answers n) ≡ Goes s → left s < left (state_at code root answers n)
 
--- numbers are those of their words; no Post, which a queue makes a call of before; no Help
+-- numbers are those of their words; no Post, which a queue makes a call of before
 abbrev pub IsSelectable : Mid → Type 0
 IsSelectable (Set v n) = n < 2 ^ 16
 IsSelectable (Fault c) = c < 2 ^ 8
 IsSelectable (Post k v) = ⊥
-IsSelectable (Help h ins outs) = ⊥
 IsSelectable _ = Unit {0}
 
 -- what the function does when it is called first
@@ -119,6 +120,9 @@ pub record IsSelected (code : MidCode) (homes : ℕ → ℕ → Home) (own deep 
   pub framed : (f : ℕ) → f < length code.fns → IsFramed code homes own deep f
   pub depths : (f : ℕ) → f < length code.fns → IsDeep code homes own deep f
   pub standing : IsStanding code homes own deep image marks entries places
+  -- the routine of each Help stands at its place, and ends in so many instructions
+  pub most_help : ℕ
+  pub routines : (f at h : ℕ) (ins outs : List ℕ) → slice_get (fn_of code f).code at ≡ Some (Help h ins outs) → IsRoutine code image data_end marks h (entries (routine_of (length code.fns) h)) most_help
   pub objects : TouchesObjects code root data_end
   pub paced : IsPaced code root left most
   pub is : root < length code.fns
@@ -128,6 +132,8 @@ pub record IsSelected (code : MidCode) (homes : ℕ → ℕ → Home) (own deep 
   -- an entry has three instructions for each word and one more; a call one for each value passed and one more
   pub entry : (f : ℕ) → f < length code.fns → 3 * (own f / 2) + 1 < long
   pub call : (f : ℕ) → f < length code.fns → count_pushed (fn_of code f).params + 1 < long
+  -- a Help one for each value passed, of which there are four at most, and those of its routine
+  pub help : most_help + 4 < long
   pub least : 5 < long
 
 -- The code of a function that takes nothing does what the open machine does, called with the gate open or with it closed, and

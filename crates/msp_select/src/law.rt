@@ -1,9 +1,11 @@
 //! Selected code meets the open law.
 
-ghost use Rattle.msp_select.specs.AtomicRow.{AtomicRowIsOpen};
+ghost use Rattle.msp_select.specs.AtomicRow.{AtomicRowIsOpen, AtomicRowIsPaced};
 ghost use Rattle.msp_select.specs.Frames.{FramesAreSmall};
 ghost use Rattle.msp_select.specs.Laid.{LaidCodeStands};
+ghost use Rattle.msp_select.specs.Routine.{LoneReturnGivesBack};
 ghost use Rattle.msp_select.specs.Sound.{FramesFit, SelectedCodeIsOpen};
+ghost use Rattle.msp_select.specs.Weight.{SelectedCodeIsPaced};
 
 /// Where its code stands in an image, a function without parameters does what the open machine does, whatever happens between
 /// its instructions.
@@ -31,4 +33,20 @@ pub fn frames_are_small()
 /// Where functions with these items are laid out, and the table of silent actions is theirs, the code stands as the law asks.
 pub fn laid_code_stands()
     ensures { LaidCodeStands }
+{}
+
+/// The same law with a bound that counts instructions: of so many as the heaviest state holds, one entry, one piece and two, one does
+/// an action or is the last.
+pub fn selected_code_is_paced()
+    ensures { SelectedCodeIsPaced }
+{}
+
+/// What the law asks of a routine can be met: a lone RET gives the values that it is passed.
+pub fn lone_return_gives_back()
+    ensures { LoneReturnGivesBack }
+{}
+
+/// The same function with its bound of instructions.
+pub fn atomic_row_is_paced()
+    ensures { AtomicRowIsPaced }
 {}
