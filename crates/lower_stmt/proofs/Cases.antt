@@ -10,8 +10,6 @@ use Rattle.nm_base.specs.IntType.{wrapped}
 use Rattle.nm_base.specs.Behaviour.{Behaviour}
 use Rattle.nesc_core.specs.Plain.{Expr, Case, int}
 use Rattle.nesc_core.specs.Typing.{Has, IsNumber}
-use Rattle.nesc_core.specs.WellFormed.{Exits}
-use Rattle.nesc_core.specs.WellFormed as formed
 use Rattle.nesc_core.specs.Derefs.{expr_derefs}
 use Rattle.nesc_core.specs.Calls.{expr_calls}
 use Rattle.core_meaning.specs.declared.flow.Flow.{Flow}
@@ -38,8 +36,9 @@ use Rattle.lower_expr.proofs.Pieces.{const_runs, set_runs}
 use Rattle.lower_expr.proofs.Values.{holds_put, keeps_put, keeps_refl, still}
 use Rattle.lower_expr.proofs.Wide.{bin_runs, high_of, wide_is}
 use Rattle.lower_stmt.specs.Code.{Ways, case_code, cases_code, in_switch, label_of, same_code}
-use Rattle.lower_stmt.specs.Runs.{AreHeld, Follows, Setting, code, here}
+use Rattle.lower_stmt.specs.Runs.{AreHeld, Setting, code, here}
 use Rattle.lower_stmt.proofs.Common.{GoesOn, Ready, behind, held_as, jumps, past_label, value_runs}
+use Rattle.lower_stmt.proofs.Leaving.{Follows, May, switch_may}
 use Rattle.lower_stmt.proofs.Exits.{DoesIt}
 
 -- ---- numbers that are the same
@@ -209,31 +208,31 @@ module _ (c : Setting) where
   -- ---- the whole
 
   -- a break ends at the switch's own label
-  switch_left : (exits : Exits) (w : Ways) (l mid n : ℕ) (after : Flow → Locals → Behaviour) → slice_get (code c) mid ≡ Some (Label l) → Follows c exits w (mid + 1) n after →
-      Follows c (formed.in_switch exits) (in_switch l w) mid n (λ flow. after (out_of_switch flow))
-  switch_left exits w l mid n after label next On env values frame pc h left = behind c n (after On env) pc mid values frame left (past_label c n (after On env) l mid values frame label (next On env values frame (mid + 1) h refl))
-  switch_left exits w l mid n after label next Broke env values frame pc h left = jumps c n (after On env) l pc mid values frame left.1.1.0 label (next On env values frame (mid + 1) h refl)
-  switch_left exits w l mid n after label next Continued env values frame pc h left = next Continued env values frame pc h left
-  switch_left exits w l mid n after label next (Gave v) env values frame pc h left = next (Gave v) env values frame pc h left
+  switch_left : (may : May) (w : Ways) (l mid n : ℕ) (after : Flow → Locals → Behaviour) → slice_get (code c) mid ≡ Some (Label l) → Follows c may w (mid + 1) n after →
+      Follows c (switch_may may) (in_switch l w) mid n (λ flow. after (out_of_switch flow))
+  switch_left may w l mid n after label next On env values frame pc h left = behind c n (after On env) pc mid values frame left (past_label c n (after On env) l mid values frame label (next On env values frame (mid + 1) h refl))
+  switch_left may w l mid n after label next Broke env values frame pc h left = jumps c n (after On env) l pc mid values frame left.1 label (next On env values frame (mid + 1) h refl)
+  switch_left may w l mid n after label next Continued env values frame pc h left = next Continued env values frame pc h left
+  switch_left may w l mid n after label next (Gave v) env values frame pc h left = next (Gave v) env values frame pc h left
 
   -- a statement of the switch, behind its label
-  pub record Starts (exits : Exits) (w : Ways) (l end : ℕ) (work : Work Flow) : Type 0 where
+  pub record Starts (may : May) (w : Ways) (l end : ℕ) (work : Work Flow) : Type 0 where
     pub to : ℕ
     pub label : slice_get (code c) to ≡ Some (Label l)
-    pub runs : DoesIt c exits w (to + 1) end work
+    pub runs : DoesIt c may w (to + 1) end work
 
-  pub switch_runs : (exits : Exits) (w : Ways) (e : Expr) (cases : List Case) (count l le pc end : ℕ) (inner : List Mid) (from : ℕ → Work Flow) → IsNumber (Has c.p c.types e) → Ready c (expr_derefs e) (expr_calls e) →
+  pub switch_runs : (may : May) (w : Ways) (e : Expr) (cases : List Case) (count l le pc end : ℕ) (inner : List Mid) (from : ℕ → Work Flow) → IsNumber (Has c.p c.types e) → Ready c (expr_derefs e) (expr_calls e) →
       All (λ x. x.start < count) cases →
       Stands (code c) pc (expr_code c.p c.types c.checks c.spots e c.base le ++ (cases_code (held c.p c.types e) cases (start_of_default cases) c.base l ++ (inner ++ Label l ∷ []))) end →
-      ((mid to : ℕ) → Stands (code c) mid inner to → (k : ℕ) → k < count → Starts (formed.in_switch exits) (in_switch l w) (l + 1 + k) to (from k)) →
-      DoesIt c exits w pc end (λ after. value c.p c.types c.calls e (λ v. from_case (start_of_value cases v) (start_of_default cases) from (λ flow. after (out_of_switch flow))))
-  switch_runs exits w e cases count l le pc end inner from typed ready inside s starts =
+      ((mid to : ℕ) → Stands (code c) mid inner to → (k : ℕ) → k < count → Starts (switch_may may) (in_switch l w) (l + 1 + k) to (from k)) →
+      DoesIt c may w pc end (λ after. value c.p c.types c.calls e (λ v. from_case (start_of_value cases v) (start_of_default cases) from (λ flow. after (out_of_switch flow))))
+  switch_runs may w e cases count l le pc end inner from typed ready inside s starts =
       let s1 = split (code c) pc end (expr_code c.p c.types c.checks c.spots e c.base le) _ s in
       let s2 = split (code c) s1.0 end (cases_code (held c.p c.types e) cases (start_of_default cases) c.base l) (inner ++ Label l ∷ []) s1.2 in
       let s3 = split (code c) s2.0 end inner (Label l ∷ []) s2.2 in
       record {
         by = λ n after env values frame few h next.
-            let left = switch_left exits w l s3.0 n after s3.2.0 (subst (λ q. Follows c exits w q n after) (sym s3.2.1) next) in
+            let left = switch_left may w l s3.0 n after s3.2.0 (subst (λ q. Follows c may w q n after) (sym s3.2.1) next) in
             let begins : (k : ℕ) → k < count → StandsAt n (label_of (Some k) l) (from k (λ flow. after (out_of_switch flow))) =
             (λ k lt. let there = starts s2.0 s3.0 s3.1 k lt in
             record { to = there.to; label = there.label; runs = λ env1 values1 frame1 h1. there.runs.by n (λ flow. after (out_of_switch flow)) env1 values1 frame1 few h1 left }) in
@@ -241,10 +240,10 @@ module _ (c : Setting) where
             (λ v env1 values1 frame1 h1.
             cases_runs cases (start_of_default cases) (held c.p c.types e) v count l s1.0 s2.0 n from (λ flow. after (out_of_switch flow)) env1 values1 frame1 s2.1
             (subst (λ t. IsHeld t v values1 c.base) (sym (held_as c e (int typed.0) typed.1)) h1.is) h1.holds inside begins
-            (by_default n after s3.0 s3.2.0 (subst (λ q. Follows c exits w q n after) (sym s3.2.1) next) (start_of_default cases) refl begins));
+            (by_default n after s3.0 s3.2.0 (subst (λ q. Follows c may w q n after) (sym s3.2.1) next) (start_of_default cases) refl begins));
       }
     where
-      by_default : (n : ℕ) (after : Flow → Locals → Behaviour) (mid : ℕ) → slice_get (code c) mid ≡ Some (Label l) → Follows c exits w (mid + 1) n after → (d : Option ℕ) → start_of_default cases ≡ d →
+      by_default : (n : ℕ) (after : Flow → Locals → Behaviour) (mid : ℕ) → slice_get (code c) mid ≡ Some (Label l) → Follows c may w (mid + 1) n after → (d : Option ℕ) → start_of_default cases ≡ d →
           ((k : ℕ) → k < count → StandsAt n (label_of (Some k) l) (from k (λ flow. after (out_of_switch flow)))) →
           StandsAt n (label_of d l) (from_case None d from (λ flow. after (out_of_switch flow)))
       by_default n after mid label next None is begins = record { to = mid; label = label; runs = λ env values frame h. next On env values frame (mid + 1) h refl }

@@ -20,6 +20,7 @@ use Rattle.mid_code.specs.declared.instr.Test.{Test}
 use Rattle.mid_code.specs.declared.instr.Test.TheVariants.{Eq, Ne}
 use Rattle.mid_code.specs.Form.{labels_named, one_more, times}
 use Rattle.mid_code.specs.Help.{is_wide}
+use Rattle.mid_code.specs.Machine.{is_label}
 use Rattle.lower_expr.specs.declared.spot.Regs.{Regs}
 use Rattle.lower_expr.specs.declared.spot.Spot.{Spot}
 use Rattle.lower_expr.specs.declared.spot.Spot.TheVariants.{Values, Frame}
@@ -28,8 +29,9 @@ use Rattle.lower_expr.specs.Pieces.{const_code, zero_code}
 use Rattle.lower_expr.specs.Code.{Kind, InValues, InFrame, InMemory, all_labels, expr_code, is_void, keep_code, kind_of_spot, labels, local_code, put_code, taken_at}
 use Rattle.expr_emitter.specs.Laws.{NamesIn}
 use Rattle.expr_emitter.proofs.Labels.{has_labels}
-use Rattle.lower_stmt.specs.Code.{Ways, back_code, case_code, cases_code, clear_code, clears_code, ends_code, enter_code, here_gives, in_atomic, in_here, in_loop, in_switch, kept_code, label_of, maybe_labels, nothing_code, result_code, return_code, returned_code, same_code, step_code, stmt_code, stmt_labels, stmts_code, switch_code, zero_local_code, zero_regs_code}
+use Rattle.lower_stmt.specs.Code.{Ways, case_code, cases_code, clear_code, clears_code, enter_code, here_gives, in_atomic, in_here, in_loop, in_switch, kept_code, label_of, maybe_labels, nothing_code, result_code, returned_code, same_code, step_code, stmt_code, stmt_labels, stmts_code, switch_code, zero_local_code, zero_regs_code, WayOut, breaking, continuing, returning, exit_code, leads, some_leads, way_out}
 use Rattle.lower_stmt.specs.Bodies.{base_of, body_code, spots_of, ways_of}
+use Rattle.lower_stmt.proofs.Leaving.{leads_allowed, or_first, or_second}
 use Rattle.lower_stmt.proofs.Cases.{default_inside}
 use Rattle.lower_stmt.proofs.Labels.{times_both}
 
@@ -133,10 +135,6 @@ module _ (whole : List Mid) where
   nothing_names : (ty : Ty) (r : ℕ) → Names (nothing_code ty r)
   nothing_names ty r = if_names (is_void ty) [] (const_code (number_of ty) (pos 0) r) (record { named = tt }) (const_names (number_of ty) (pos 0) r)
 
-  ends_names : (os : List ℕ) → Names (ends_code os)
-  ends_names [] = record { named = tt }
-  ends_names (o ∷ os) = record { named = (ends_names os).named }
-
   same_names : (wide : Bool) (r l : ℕ) → StandsThere l → Names (same_code wide r l)
   same_names true r l h = record { named = (h, tt) }
   same_names false r l h = record { named = (h, tt) }
@@ -180,14 +178,26 @@ module _ (whole : List Mid) where
 
   -- ---- ways out
 
-  record WaysStand (exits : Exits) (w : Ways) : Type 0 where
-    on_return : (l : ℕ) → w.return_to ≡ Some l → StandsThere l
-    on_break : exits.breaks ≡ true → StandsThere w.break_to
-    on_continue : exits.continues ≡ true → StandsThere w.continue_to
+  -- the label that a way out leads to stands there
+  record Leads (onward : Mid) : Type 0 where
+    names : (more : List Mid) → NamesIn whole more → NamesIn whole (onward ∷ more)
 
-  back_names : (o : Option ℕ) (ty : Ty) (r : ℕ) → ((l : ℕ) → o ≡ Some l → StandsThere l) → Names (back_code o ty r)
-  back_names None ty r h = record { named = tt }
-  back_names (Some l) ty r h = record { named = (h l refl, tt) }
+  jump_leads : (l : ℕ) → StandsThere l → Leads (Jump l)
+  jump_leads l h = record { names = λ more g. (h, g) }
+
+  -- for each way that statements have
+  record WaysStand (may : WayOut → Bool) (w : Ways) (r : ℕ) : Type 0 where
+    way : (out : WayOut) → may out ≡ true → Leads (way_out w r out)
+
+  exit_names : (b : Bool) (o l : ℕ) (onward : Mid) → (b ≡ true → Leads onward) → Part (exit_code b o l onward) → Names (exit_code b o l onward)
+  exit_names false o l onward h part = record { named = tt }
+  exit_names true o l onward h part =
+      let there = part.there (l + 1) (past (l == l + 1) (times (l + 1) (onward ∷ Label (l + 1) ∷ [])) (past (is_label onward (l + 1)) (times (l + 1) (Label (l + 1) ∷ [])) (at_self (l + 1) 0))) in
+      record { named = (there, (h refl).names (Label (l + 1) ∷ []) tt) }
+
+  exit_there : (b : Bool) (o l : ℕ) (onward : Mid) → b ≡ true → Part (exit_code b o l onward) → StandsThere l
+  exit_there false o l onward is part = absurd (cc)
+  exit_there true o l onward is part = part.there l (at_self l (times l (onward ∷ Label (l + 1) ∷ [])))
 
   module _ (p : Program) (types checks : List Ty) (spots : List Spot) (base : ℕ) where
     expr_names : (e : Expr) (r l : ℕ) → Part (expr_code p types checks spots e r l) → Names (expr_code p types checks spots e r l)
@@ -256,10 +266,48 @@ module _ (whole : List Mid) where
     behind_begin : (o : ℕ) (c : List Mid) → Part (Begin o ∷ c) → Part c
     behind_begin o c h = record { there = λ k le. h.there k le }
 
+    behind_end : (o : ℕ) (c : List Mid) → Part (End o ∷ c) → Part c
+    behind_end o c h = record { there = λ k le. h.there k le }
+
+    -- ---- the ways out of what stands within
+
+    loop_ways : (own : WayOut → Bool) (w : Ways) (out next : ℕ) → StandsThere out → StandsThere next → (own returning ≡ true → Leads (way_out w (base + 2) returning)) → WaysStand own (in_loop out next w) (base + 2)
+    loop_ways own w out next h g returns = record { way = by }
+      where
+        by : (o : WayOut) → own o ≡ true → Leads (way_out (in_loop out next w) (base + 2) o)
+        by returning e = record { names = (returns e).names }
+        by breaking e = jump_leads out h
+        by continuing e = jump_leads next g
+
+    switch_ways : (own : WayOut → Bool) (w : Ways) (out : ℕ) → StandsThere out → (own returning ≡ true → Leads (way_out w (base + 2) returning)) → (own continuing ≡ true → Leads (way_out w (base + 2) continuing)) →
+        WaysStand own (in_switch out w) (base + 2)
+    switch_ways own w out h returns goes_on = record { way = by }
+      where
+        by : (o : WayOut) → own o ≡ true → Leads (way_out (in_switch out w) (base + 2) o)
+        by returning e = record { names = (returns e).names }
+        by breaking e = jump_leads out h
+        by continuing e = record { names = (goes_on e).names }
+
+    atomic_ways : (own : WayOut → Bool) (w : Ways) (l : ℕ) → (own returning ≡ true → StandsThere l) → (own breaking ≡ true → StandsThere (l + 2)) → (own continuing ≡ true → StandsThere (l + 4)) → WaysStand own (in_atomic l w) (base + 2)
+    atomic_ways own w l h1 h2 h3 = record { way = by }
+      where
+        by : (o : WayOut) → own o ≡ true → Leads (way_out (in_atomic l w) (base + 2) o)
+        by returning e = jump_leads l (h1 e)
+        by breaking e = jump_leads (l + 2) (h2 e)
+        by continuing e = jump_leads (l + 4) (h3 e)
+
+    here_ways : (own : WayOut → Bool) (w : Ways) (l : ℕ) (ty : Ty) → StandsThere l → WaysStand own (in_here l ty w) (base + 2)
+    here_ways own w l ty h = record { way = by }
+      where
+        by : (o : WayOut) → own o ≡ true → Leads (way_out (in_here l ty w) (base + 2) o)
+        by returning e = jump_leads l h
+        by breaking e = jump_leads l h
+        by continuing e = jump_leads l h
+
     mutual
-      stmt_names : (s : Stmt) (exits : Exits) (w : Ways) (l : ℕ) → IsStmt p types s exits → WaysStand exits w → Part (stmt_code p types checks spots base s w l) → Names (stmt_code p types checks spots base s w l)
+      stmt_names : (s : Stmt) (exits : Exits) (w : Ways) (l : ℕ) → IsStmt p types s exits → WaysStand (leads s) w (base + 2) → Part (stmt_code p types checks spots base s w l) → Names (stmt_code p types checks spots base s w l)
       stmt_names (plain.eval e) exits w l typed ways part = expr_names e base l part
-      stmt_names (plain.block list) exits w l typed ways part = stmts_names list exits w l typed ways part
+      stmt_names (plain.block list) exits w l typed ways part = stmts_names list exits w l typed (record { way = λ o e. ways.way o e }) part
       stmt_names (plain.branch test a b) exits w l typed ways part =
           let t : List Mid = expr_code p types checks spots test base (l + 2) in
           let z : List Mid = zero_code Eq (is_wide (held p types test)) base l in
@@ -271,10 +319,10 @@ module _ (whole : List Mid) where
           let q2 = behind_jump (l + 1) (Label l ∷ last) (second_part ca middle q1) in
           let q3 = behind_label l last q2 in
           let out = label_there (l + 1) [] (second_part cb (Label (l + 1) ∷ []) q3) in
-          let second = both cb (Label (l + 1) ∷ []) (stmt_names b exits w (l + 2 + labels test + stmt_labels a) typed.2 ways (first_part cb (Label (l + 1) ∷ []) q3)) (record { named = tt }) in
+          let second = both cb (Label (l + 1) ∷ []) (stmt_names b exits w (l + 2 + labels test + stmt_labels a) typed.2 (record { way = λ o e. ways.way o (or_second (leads a o) (leads b o) e) }) (first_part cb (Label (l + 1) ∷ []) q3)) (record { named = tt }) in
           both t (z ++ (ca ++ middle)) (expr_names test base (l + 2) (first_part t (z ++ (ca ++ middle)) part))
           (both z (ca ++ middle) (zero_names Eq (is_wide (held p types test)) base l (label_there l last q2))
-          (both ca middle (stmt_names a exits w (l + 2 + labels test) typed.1 ways (first_part ca middle q1)) (record { named = (out, second.named) })))
+          (both ca middle (stmt_names a exits w (l + 2 + labels test) typed.1 (record { way = λ o e. ways.way o (or_first (leads a o) (leads b o) e) }) (first_part ca middle q1)) (record { named = (out, second.named) })))
       stmt_names (plain.loop true test step body) exits w l typed ways part =
           let inner : Ways = in_loop (l + 1) (l + 2) w in
           let lb : ℕ = l + 3 + labels test + maybe_labels step in
@@ -295,7 +343,7 @@ module _ (whole : List Mid) where
           let named = both t (z ++ (cb ++ (Label (l + 2) ∷ (cs ++ last)))) (expr_names test base (l + 3) (first_part t (z ++ (cb ++ (Label (l + 2) ∷ (cs ++ last)))) q0))
           (both z (cb ++ (Label (l + 2) ∷ (cs ++ last))) (zero_names Eq (is_wide (held p types test)) base (l + 1) out)
           (both cb (Label (l + 2) ∷ (cs ++ last))
-          (stmt_names body (formed.in_loop exits) inner lb typed.2 (record { on_return = ways.on_return; on_break = λ e. out; on_continue = λ e. next }) (first_part cb (Label (l + 2) ∷ (cs ++ last)) q1))
+          (stmt_names body (formed.in_loop exits) inner lb typed.2 (loop_ways (leads body) w (l + 1) (l + 2) out next (λ e. ways.way returning e)) (first_part cb (Label (l + 2) ∷ (cs ++ last)) q1))
           (record { named = behind_body.named }))) in
           record { named = named.named }
       stmt_names (plain.loop false test step body) exits w l typed ways part =
@@ -315,7 +363,7 @@ module _ (whole : List Mid) where
           let tests = both t (z ++ Label (l + 1) ∷ []) (expr_names test base (l + 3) (first_part t (z ++ Label (l + 1) ∷ []) q2))
           (both z (Label (l + 1) ∷ []) (zero_names Ne (is_wide (held p types test)) base l top) (record { named = tt })) in
           let named = both cb (Label (l + 2) ∷ last)
-          (stmt_names body (formed.in_loop exits) inner lb typed.2 (record { on_return = ways.on_return; on_break = λ e. out; on_continue = λ e. next }) (first_part cb (Label (l + 2) ∷ last) q0))
+          (stmt_names body (formed.in_loop exits) inner lb typed.2 (loop_ways (leads body) w (l + 1) (l + 2) out next (λ e. ways.way returning e)) (first_part cb (Label (l + 2) ∷ last) q0))
           (record { named = tests.named }) in
           record { named = named.named }
       stmt_names (plain.switch e cases list) exits w l typed ways part =
@@ -331,17 +379,32 @@ module _ (whole : List Mid) where
           let starts : (k : ℕ) → k < m → StandsThere (l + 1 + k) = (λ k lt. starts_there list inner (l + 1) ls k lt inside) in
           both t (z ++ (cs ++ Label l ∷ [])) (expr_names e base (l + 1 + m) (first_part t (z ++ (cs ++ Label l ∷ [])) part))
           (both z (cs ++ Label l ∷ []) (cases_names (held p types e) cases (start_of_default cases) base l m starts (default_there cases (start_of_default cases) l m refl typed.1 out starts) typed.1)
-          (both cs (Label l ∷ []) (switch_names list (formed.in_switch exits) inner (l + 1) ls typed.2 (record { on_return = ways.on_return; on_break = λ q. out; on_continue = ways.on_continue }) inside) (record { named = tt })))
-      stmt_names plain.break exits w l typed ways part = both (ends_code w.break_from) (Jump w.break_to ∷ []) (ends_names w.break_from) (record { named = (ways.on_break typed, tt) })
-      stmt_names plain.continue exits w l typed ways part = both (ends_code w.continue_from) (Jump w.continue_to ∷ []) (ends_names w.continue_from) (record { named = (ways.on_continue typed, tt) })
+          (both cs (Label l ∷ []) (switch_names list (formed.in_switch exits) inner (l + 1) ls typed.2 (switch_ways (some_leads list) w l out (λ e. ways.way returning e) (λ e. ways.way continuing e)) inside) (record { named = tt })))
+      stmt_names plain.break exits w l typed ways part = record { named = (ways.way breaking refl).names [] tt }
+      stmt_names plain.continue exits w l typed ways part = record { named = (ways.way continuing refl).names [] tt }
       stmt_names (plain.return e) exits w l typed ways part =
-          both (returned_code p types checks spots base e w l) (return_code w (base + 2)) (returned_names e w l (first_part (returned_code p types checks spots base e w l) (return_code w (base + 2)) part))
-          (both (ends_code w.return_from) (back_code w.return_to w.gives (base + 2)) (ends_names w.return_from) (back_names w.return_to w.gives (base + 2) ways.on_return))
+          let c : List Mid = returned_code p types checks spots base e w l in
+          let x : List Mid = way_out w (base + 2) returning ∷ [] in
+          both c x (returned_names e w l (first_part c x part)) (record { named = (ways.way returning refl).names [] tt })
       stmt_names (plain.atomic s) exits w l typed ways part =
-          let c : List Mid = stmt_code p types checks spots base s (in_atomic w) l in
-          let q = behind_begin w.status (c ++ End w.status ∷ []) part in
-          let named = both c (End w.status ∷ [])
-          (stmt_names s exits (in_atomic w) l typed (record { on_return = ways.on_return; on_break = ways.on_break; on_continue = ways.on_continue }) (first_part c (End w.status ∷ []) q)) (record { named = tt }) in
+          let c : List Mid = stmt_code p types checks spots base s (in_atomic l w) (l + 6) in
+          let x1 : List Mid = exit_code (leads s returning) w.status l (way_out w (base + 2) returning) in
+          let x2 : List Mid = exit_code (leads s breaking) w.status (l + 2) (way_out w (base + 2) breaking) in
+          let x3 : List Mid = exit_code (leads s continuing) w.status (l + 4) (way_out w (base + 2) continuing) in
+          let all : List Mid = End w.status ∷ (x1 ++ (x2 ++ x3)) in
+          let q = behind_begin w.status (c ++ all) part in
+          let q1 = behind_end w.status (x1 ++ (x2 ++ x3)) (second_part c all q) in
+          let q2 = second_part x1 (x2 ++ x3) q1 in
+          let p1 = first_part x1 (x2 ++ x3) q1 in
+          let p2 = first_part x2 x3 q2 in
+          let p3 = second_part x2 x3 q2 in
+          let inside = stmt_names s exits (in_atomic l w) (l + 6) typed
+          (atomic_ways (leads s) w l (λ e. exit_there (leads s returning) w.status l (way_out w (base + 2) returning) e p1) (λ e. exit_there (leads s breaking) w.status (l + 2) (way_out w (base + 2) breaking) e p2)
+          (λ e. exit_there (leads s continuing) w.status (l + 4) (way_out w (base + 2) continuing) e p3)) (first_part c all q) in
+          let outside = both x1 (x2 ++ x3) (exit_names (leads s returning) w.status l (way_out w (base + 2) returning) (λ e. ways.way returning e) p1)
+          (both x2 x3 (exit_names (leads s breaking) w.status (l + 2) (way_out w (base + 2) breaking) (λ e. ways.way breaking e) p2)
+          (exit_names (leads s continuing) w.status (l + 4) (way_out w (base + 2) continuing) (λ e. ways.way continuing e) p3)) in
+          let named = both c all inside (record { named = outside.named }) in
           record { named = named.named }
       stmt_names (plain.clear x) exits w l typed ways part = local_zero_names (slice_get spots x) (slice_index_or types x plain.void) (size_of p (slice_index_or types x plain.void)) base l part
       stmt_names (plain.here arguments first count body) exits w l typed ways part =
@@ -362,25 +425,27 @@ module _ (whole : List Mid) where
           let q4 = behind_tick cr (behind_label l (Tick ∷ cr) q3) in
           let named = both cb last
           (stmt_names body (by_result p types first count) inner (l + 1 + la + 2 * count) typed.1
-          (record { on_return = λ m e. (let q : l ≡ m = cc in subst StandsThere q out); on_break = λ e. out; on_continue = λ e. out }) (first_part cb last q2))
+          (here_ways (leads body) w l (here_gives p types checks spots base gives (first + count)) out) (first_part cb last q2))
           (both cn (Label l ∷ Tick ∷ cr) (nothing_names inner.gives (base + 2)) (record { named = (result_names gives (first + count) q4).named })) in
           both ca (cw ++ (Tick ∷ (cb ++ last))) (enter_names arguments first (l + 1) (first_part ca (cw ++ (Tick ∷ (cb ++ last))) part))
           (both cw (Tick ∷ (cb ++ last)) (clears_names (count - n) (first + n) (l + 1 + la) (first_part cw (Tick ∷ (cb ++ last)) q1)) (record { named = named.named }))
 
-      stmts_names : (list : Stmts) (exits : Exits) (w : Ways) (l : ℕ) → AreStmts p types list exits → WaysStand exits w → Part (stmts_code p types checks spots base list w l) → Names (stmts_code p types checks spots base list w l)
+      stmts_names : (list : Stmts) (exits : Exits) (w : Ways) (l : ℕ) → AreStmts p types list exits → WaysStand (some_leads list) w (base + 2) → Part (stmts_code p types checks spots base list w l) → Names (stmts_code p types checks spots base list w l)
       stmts_names no_stmts exits w l typed ways part = record { named = tt }
       stmts_names (more_stmts s rest) exits w l typed ways part =
           let a : List Mid = stmt_code p types checks spots base s w l in
           let b : List Mid = stmts_code p types checks spots base rest w (l + stmt_labels s) in
-          both a b (stmt_names s exits w l typed.0 ways (first_part a b part)) (stmts_names rest exits w (l + stmt_labels s) typed.1 ways (second_part a b part))
+          both a b (stmt_names s exits w l typed.0 (record { way = λ o e. ways.way o (or_first (leads s o) (some_leads rest o) e) }) (first_part a b part))
+          (stmts_names rest exits w (l + stmt_labels s) typed.1 (record { way = λ o e. ways.way o (or_second (leads s o) (some_leads rest o) e) }) (second_part a b part))
 
-      switch_names : (list : Stmts) (exits : Exits) (w : Ways) (k l : ℕ) → AreStmts p types list exits → WaysStand exits w → Part (switch_code p types checks spots base list w k l) → Names (switch_code p types checks spots base list w k l)
+      switch_names : (list : Stmts) (exits : Exits) (w : Ways) (k l : ℕ) → AreStmts p types list exits → WaysStand (some_leads list) w (base + 2) → Part (switch_code p types checks spots base list w k l) → Names (switch_code p types checks spots base list w k l)
       switch_names no_stmts exits w k l typed ways part = record { named = tt }
       switch_names (more_stmts s rest) exits w k l typed ways part =
           let a : List Mid = stmt_code p types checks spots base s w l in
           let b : List Mid = switch_code p types checks spots base rest w (suc k) (l + stmt_labels s) in
           let q = behind_label k (a ++ b) part in
-          let named = both a b (stmt_names s exits w l typed.0 ways (first_part a b q)) (switch_names rest exits w (suc k) (l + stmt_labels s) typed.1 ways (second_part a b q)) in
+          let named = both a b (stmt_names s exits w l typed.0 (record { way = λ o e. ways.way o (or_first (leads s o) (some_leads rest o) e) }) (first_part a b q))
+          (switch_names rest exits w (suc k) (l + stmt_labels s) typed.1 (record { way = λ o e. ways.way o (or_second (leads s o) (some_leads rest o) e) }) (second_part a b q)) in
           record { named = named.named }
 
 -- ---- functions
@@ -416,6 +481,14 @@ each_named whole (Post k d ∷ is) h = All-cons (LabelsStand whole) (Post k d) i
 each_named whole (Tick ∷ is) h = All-cons (LabelsStand whole) Tick is (All-nil (λ l. 1 ≤ times l whole)) (each_named whole is h)
 each_named whole (Fault code ∷ is) h = All-cons (LabelsStand whole) (Fault code) is (All-nil (λ l. 1 ≤ times l whole)) (each_named whole is h)
 
+body_ways : (whole : List Mid) (p : Program) (b : Body) → IsBody p b → WaysStand whole (leads b.code) (ways_of p b) (base_of b + 2)
+body_ways whole p b own = record { way = by }
+  where
+    by : (o : WayOut) → leads b.code o ≡ true → Leads whole (way_out (ways_of p b) (base_of b + 2) o)
+    by returning e = record { names = λ more g. g }
+    by breaking e = let q = leads_allowed p b.locals b.code (by_return b.result) breaking own.code e in absurd (cc q)
+    by continuing e = let q = leads_allowed p b.locals b.code (by_return b.result) continuing own.code e in absurd (cc q)
+
 in_itself : (p : Program) (checks : List Ty) (b : Body) → IsBody p b → NamesIn (body_code p checks b) (body_code p checks b)
 in_itself p checks b own =
     let base : ℕ = base_of b in
@@ -424,7 +497,7 @@ in_itself p checks b own =
     let whole : List Mid = body_code p checks b in
     let part : Part whole (c ++ tail) = record { there = λ k le. le } in
     (both whole c tail
-    (stmt_names whole p b.locals checks (spots_of p b) base b.code (by_return b.result) (ways_of p b) 0 own.code (record { on_return = λ l e. absurd (cc); on_break = λ e. absurd (cc); on_continue = λ e. absurd (cc) }) (first_part whole c tail part))
+    (stmt_names whole p b.locals checks (spots_of p b) base b.code (by_return b.result) (ways_of p b) 0 own.code (body_ways whole p b own) (first_part whole c tail part))
     (both whole (nothing_code b.result (base + 2)) (Ret (taken_at b.result (base + 2)) ∷ []) (nothing_names whole b.result (base + 2)) (record { named = tt }))).named
 
 pub labels_stand : (p : Program) (checks : List Ty) (b : Body) → IsBody p b → All (LabelsStand (body_code p checks b)) (body_code p checks b)

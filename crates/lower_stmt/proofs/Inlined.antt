@@ -29,8 +29,9 @@ use Rattle.lower_expr.specs.Code.{kind_of_spot, local_code, put_code}
 use Rattle.lower_expr.specs.Held.{IsHeld, IsHighHeld}
 use Rattle.lower_expr.proofs.Found.{as_number}
 use Rattle.lower_stmt.specs.Code.{Ways, clears_code, enter_code, here_gives, in_here, nothing_code, result_code}
-use Rattle.lower_stmt.specs.Runs.{AreHeld, Follows, IsGivenAt, Setting, code, here}
+use Rattle.lower_stmt.specs.Runs.{AreHeld, IsGivenAt, Setting, code, here}
 use Rattle.lower_stmt.proofs.Common.{GoesOn, Ready, behind, jumps, past_label}
+use Rattle.lower_stmt.proofs.Leaving.{Follows, May, here_may}
 use Rattle.lower_stmt.proofs.Exits.{DoesIt, nothing_runs, scalar_not_void}
 use Rattle.lower_stmt.proofs.Enters.{clears_runs, drop_at, enter_runs, number_bytes, placed_runs, put_runs, scalar_inside, scalar_result}
 
@@ -101,7 +102,7 @@ module _ (c : Setting) where
       (λ values1 h1 found far. put_runs c spot x v s1.0 end n after env values1 frame ok lt found
       (held_there (number_of (type_at x)) v values values1 (r + 2) (far (r + 2) (omega arith)) (far (r + 2 + 1) (omega arith)) number) s1.2 h1 next))
 
-  module _ (exits : Exits) (w : Ways) (arguments : Exprs) (first count l : ℕ) (gives : Bool) (scalar : gives ≡ true → IsScalar (type_at (first + count))) where
+  module _ (may : May) (w : Ways) (arguments : Exprs) (first count l : ℕ) (gives : Bool) (scalar : gives ≡ true → IsScalar (type_at (first + count))) where
     abbrev pub ways : Ways
     ways = in_here l (here_gives c.p c.types c.checks c.spots c.base gives (first + count)) w
 
@@ -123,14 +124,14 @@ module _ (c : Setting) where
 
     -- from the label behind the body on
     out_runs : (v : ℤ) (out end n : ℕ) (after : Flow → Locals → Behaviour) → Stands (code c) out (Label l ∷ Tick ∷ result_code c.p c.types c.checks c.spots c.base gives (first + count)) end →
-        Follows c exits w end n after → (env : Locals) (values frame : ℕ → ℕ) → AreHeld c env values frame → IsGivenAt c ways.gives v values →
+        Follows c may w end n after → (env : Locals) (values frame : ℕ → ℕ) → AreHeld c env values frame → IsGivenAt c ways.gives v values →
         Runs c.codes n (Does action.Tick (ResultWork gives (first + count) v (after On) env)) (here c (out + 1) values frame)
     out_runs v out end n after s next env values frame h given =
         acts_on c.codes n action.Tick (ResultWork gives (first + count) v (after On) env) _ (here c (out + 1 + 1) values frame) (does c.codes c.f c.rest (out + 1) values frame Tick s.1.0)
         (result_runs gives (first + count) v (out + 1 + 1) end n (after On) env values frame scalar given s.1.1 h (λ env1 values1 frame1 h1. next On env1 values1 frame1 end h1 refl))
 
     body_left : (mid out end n : ℕ) (after : Flow → Locals → Behaviour) → Stands (code c) mid (nothing_code ways.gives (r + 2)) out →
-        Stands (code c) out (Label l ∷ Tick ∷ result_code c.p c.types c.checks c.spots c.base gives (first + count)) end → Follows c exits w end n after → Follows c inner ways mid n (Behind after)
+        Stands (code c) out (Label l ∷ Tick ∷ result_code c.p c.types c.checks c.spots c.base gives (first + count)) end → Follows c may w end n after → Follows c here_may ways mid n (Behind after)
     body_left mid out end n after none s next On env values frame pc h left =
         behind c n (Behind after On env) pc mid values frame left
         (nothing_runs c ways.gives mid out n (λ v env1. Does action.Tick (ResultWork gives (first + count) v (after On) env1)) env values frame ways_result none h
@@ -139,15 +140,15 @@ module _ (c : Setting) where
     body_left mid out end n after none s next Broke env values frame pc h left = absurd (cc left.0)
     body_left mid out end n after none s next Continued env values frame pc h left = absurd (cc left.0)
     body_left mid out end n after none s next (Gave v) env values frame pc h left =
-        jumps c n (Behind after (Gave v) env) l pc out values frame left.1.1.0 s.0 (out_runs v out end n after s next env values frame h left.0)
+        jumps c n (Behind after (Gave v) env) l pc out values frame left.2 s.0 (out_runs v out end n after s next env values frame h left.1)
 
     pub here_runs : (pc end : ℕ) (le lc : ℕ) (body_code : List Mid) (body : Work Flow) → Enters c.p c.types arguments first count → Ready c (exprs_derefs arguments) (exprs_calls arguments) →
         All (λ x. (x < first) ⊎ (first + count ≤ x)) (exprs_locals arguments) →
         Stands (code c) pc (enter_code c.p c.types c.checks c.spots c.base arguments first le
         ++ (clears_code c.p c.types c.checks c.spots c.base (count - count_exprs arguments) (first + count_exprs arguments) lc
         ++ (Tick ∷ (body_code ++ (nothing_code ways.gives (r + 2) ++ (Label l ∷ Tick ∷ result_code c.p c.types c.checks c.spots c.base gives (first + count))))))) end →
-        ((from to : ℕ) → Stands (code c) from body_code to → DoesIt c inner ways from to body) →
-        DoesIt c exits w pc end (λ after. values_of c.p c.types c.calls arguments (λ vs. fill c.p c.types c.calls c.turns first count vs (λ _ env. Does action.Tick (body (Behind after) env))))
+        ((from to : ℕ) → Stands (code c) from body_code to → DoesIt c here_may ways from to body) →
+        DoesIt c may w pc end (λ after. values_of c.p c.types c.calls arguments (λ vs. fill c.p c.types c.calls c.turns first count vs (λ _ env. Does action.Tick (body (Behind after) env))))
     here_runs pc end le lc body_code body enters ready apart s runs =
         let room = enters.room in
         let inside = enters.inside in

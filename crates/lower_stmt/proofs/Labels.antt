@@ -28,7 +28,7 @@ use Rattle.lower_expr.specs.Held.{held}
 use Rattle.lower_expr.specs.Pieces.{const_code, zero_code}
 use Rattle.lower_expr.specs.Code.{Kind, InValues, InFrame, InMemory, all_labels, expr_code, is_void, keep_code, kind_of_spot, labels, local_code, poke_code, put_code, store_code, taken_at}
 use Rattle.expr_emitter.proofs.Labels.{has_labels}
-use Rattle.lower_stmt.specs.Code.{Ways, back_code, case_code, cases_code, clear_code, clears_code, ends_code, enter_code, here_gives, in_atomic, in_here, in_loop, in_switch, kept_code, label_of, maybe_labels, nothing_code, result_code, return_code, returned_code, same_code, step_code, stmt_code, stmt_labels, stmts_code, stmts_labels, switch_code, zero_local_code, zero_regs_code}
+use Rattle.lower_stmt.specs.Code.{WayOut, Ways, breaking, continuing, returning, back, case_code, cases_code, clear_code, clears_code, enter_code, exit_code, exits_code, here_gives, in_atomic, in_here, in_loop, in_switch, kept_code, label_of, leads, maybe_labels, nothing_code, result_code, returned_code, same_code, step_code, stmt_code, stmt_labels, stmts_code, stmts_labels, switch_code, way_out, zero_local_code, zero_regs_code}
 use Rattle.lower_stmt.specs.Bodies.{base_of, body_code, checks_of, lowered, mid_fn_of, spots_of, ways_of}
 use Rattle.lower_stmt.specs.Correct.{AreLabelled}
 
@@ -164,19 +164,36 @@ if_free false c h = h
 nothing_free : (ty : Ty) (r : ℕ) → Free (nothing_code ty r)
 nothing_free ty r = if_free (is_void ty) (const_code (number_of ty) (pos 0) r) (const_free (number_of ty) (pos 0) r)
 
-ends_free : (os : List ℕ) → Free (ends_code os)
-ends_free [] = record { none = λ k. refl }
-ends_free (o ∷ os) = record { none = λ k. (ends_free os).none k }
+-- the way out is no label
+way_is_none : (w : Ways) (r : ℕ) (out : WayOut) (k : ℕ) → is_label (way_out w r out) k ≡ false
+way_is_none w r returning k = by w.return_to
+  where
+    by : (o : Option ℕ) → is_label (back o w.gives r) k ≡ false
+    by None = refl
+    by (Some l) = refl
+way_is_none w r breaking k = refl
+way_is_none w r continuing k = refl
 
-back_free : (o : Option ℕ) (ty : Ty) (r : ℕ) → Free (back_code o ty r)
-back_free None ty r = record { none = λ k. refl }
-back_free (Some l) ty r = record { none = λ k. refl }
+way_free : (w : Ways) (r : ℕ) (out : WayOut) → Free (way_out w r out ∷ [])
+way_free w r out = record { none = λ k. ap (λ b. one_more b 0) (way_is_none w r out k) }
 
-return_free : (w : Ways) (r : ℕ) → Free (return_code w r)
-return_free w r = both_free (ends_code w.return_from) (back_code w.return_to w.gives r) (ends_free w.return_from) (back_free w.return_to w.gives r)
+exit_fresh : (b : Bool) (o l : ℕ) (w : Ways) (r : ℕ) (out : WayOut) → Fresh l 2 (exit_code b o l (way_out w r out))
+exit_fresh true o l w r out = record {
+  once = λ k.
+      let t : ℕ = at_label k (l + 1) in
+      let e1 = one_plus k l (one_more (is_label (way_out w r out) k) t) in
+      let e2 = ap (λ b. one_more b t) (way_is_none w r out k) in
+      next k l 1 t _ (omega (arith, e1, e2)) (one k (l + 1));
+}
+exit_fresh false o l w r out = free l 2 [] (record { none = λ k. refl })
 
-jump_free : (l : ℕ) → Free (Jump l ∷ [])
-jump_free l = record { none = λ k. refl }
+exits_fresh : (may : WayOut → Bool) (w : Ways) (r l : ℕ) → Fresh l 6 (exits_code may w r l)
+exits_fresh may w r l =
+    let b : List Mid = exit_code (may breaking) w.status (l + 2) (way_out w r breaking) in
+    let d : List Mid = exit_code (may continuing) w.status (l + 4) (way_out w r continuing) in
+    let e : l + 4 ≡ l + 2 + 2 = omega arith in
+    before l 2 4 (exit_code (may returning) w.status l (way_out w r returning)) (b ++ d) (exit_fresh (may returning) w.status l w r returning)
+    (before (l + 2) 2 2 b d (exit_fresh (may breaking) w.status (l + 2) w r breaking) (subst (λ q. Fresh q 2 d) e (exit_fresh (may continuing) w.status (l + 4) w r continuing)))
 
 same_free : (wide : Bool) (r l : ℕ) → Free (same_code wide r l)
 same_free true r l = record { none = λ k. refl }
@@ -344,12 +361,19 @@ module _ (p : Program) (types checks : List Ty) (spots : List Spot) (base : ℕ)
               (next k l (m + (labels e + stmts_labels list)) (two.first + (times k t + two.second)) _ (omega (arith, e1, e2, e3, e4, e5))
               (three_parts k (l + 1) m (labels e) (stmts_labels list) two.first (times k t) two.second two.low (ht.once k) two.high));
         }
-    stmt_fresh plain.break w l = free l 0 _ (both_free (ends_code w.break_from) (Jump w.break_to ∷ []) (ends_free w.break_from) (jump_free w.break_to))
-    stmt_fresh plain.continue w l = free l 0 _ (both_free (ends_code w.continue_from) (Jump w.continue_to ∷ []) (ends_free w.continue_from) (jump_free w.continue_to))
-    stmt_fresh (plain.return e) w l = tail l (maybe_labels e) (returned_code p types checks spots base e w l) _ (return_free w (base + 2)) (returned_fresh e w l)
+    stmt_fresh plain.break w l = free l 0 _ (way_free w (base + 2) breaking)
+    stmt_fresh plain.continue w l = free l 0 _ (way_free w (base + 2) continuing)
+    stmt_fresh (plain.return e) w l = tail l (maybe_labels e) (returned_code p types checks spots base e w l) _ (way_free w (base + 2) returning) (returned_fresh e w l)
     stmt_fresh (plain.atomic s) w l =
-        let h = tail l (stmt_labels s) (stmt_code p types checks spots base s (in_atomic w) l) (End w.status ∷ []) (record { none = λ k. refl }) (stmt_fresh s (in_atomic w) l) in
-        record { once = λ k. h.once k }
+        let c : List Mid = stmt_code p types checks spots base s (in_atomic l w) (l + 6) in
+        let x : List Mid = exits_code (leads s) w (base + 2) l in
+        let hc = stmt_fresh s (in_atomic l w) (l + 6) in
+        let hx = exits_fresh (leads s) w (base + 2) l in
+        record {
+          once = λ k.
+              let e = times_both k c (End w.status ∷ x) in
+              join k l 6 (l + 6) (stmt_labels s) l (6 + stmt_labels s) (times k x) (times k c) _ (omega arith) (omega arith) (omega arith) (omega (arith, e)) (hx.once k) (hc.once k);
+        }
     stmt_fresh (plain.clear x) w l = zero_fresh (slice_get spots x) (slice_index_or types x plain.void) (size_of p (slice_index_or types x plain.void)) base l
     stmt_fresh (plain.here arguments first count body) w l =
         let gives : Bool = gives_value body in

@@ -1,4 +1,5 @@
 pub mod Common
+pub mod Leaving
 pub mod Exits
 pub mod Loops
 pub mod Branches

@@ -31,7 +31,7 @@ use Rattle.lower_expr.specs.Pieces.{const_code, values_at, zero_code}
 use Rattle.lower_expr.specs.Code.{all_labels, expr_code, is_void, keep_code, kind_of_spot, labels, local_code, poke_code, put_code, taken_at, value_named}
 use Rattle.expr_emitter.specs.Laws.{AreRegsBelow, AreSpotsBelow, NamesBelow}
 use Rattle.expr_emitter.proofs.Values.{names_below}
-use Rattle.lower_stmt.specs.Code.{Ways, back_code, case_code, cases_code, clear_code, clears_code, ends_code, enter_code, here_gives, in_atomic, in_here, in_loop, in_switch, kept_code, label_of, maybe_labels, nothing_code, result_code, return_code, returned_code, same_code, step_code, stmt_code, stmt_labels, stmts_code, switch_code, zero_bytes_code, zero_local_code, zero_regs_code}
+use Rattle.lower_stmt.specs.Code.{WayOut, Ways, breaking, continuing, returning, back, case_code, cases_code, clear_code, clears_code, enter_code, exit_code, exits_code, here_gives, in_atomic, in_here, in_loop, in_switch, kept_code, label_of, leads, maybe_labels, nothing_code, result_code, returned_code, same_code, step_code, stmt_code, stmt_labels, stmts_code, switch_code, way_out, zero_bytes_code, zero_local_code, zero_regs_code}
 use Rattle.lower_stmt.specs.Bodies.{all_values, base_of, mid_fn_of, params_from, regs_from, spot_at, spots_from, spots_of, values_of, ways_of}
 use Rattle.mid_code.specs.declared.code.MidFn.{MidFn}
 
@@ -126,10 +126,6 @@ module _ (n : ℕ) where
   nothing_under : (ty : Ty) (r : ℕ) → r + 2 ≤ n → Under (nothing_code ty r)
   nothing_under ty r h = if_under (is_void ty) [] (const_code (number_of ty) (pos 0) r) tt (const_under (number_of ty) (pos 0) r h)
 
-  ends_under : (os : List ℕ) → Under (ends_code os)
-  ends_under [] = tt
-  ends_under (o ∷ os) = (end_under o, ends_under os)
-
   taken_under : (b wide : Bool) (r : ℕ) → r + 2 ≤ n → AreBelow n (if b then [] else values_at wide r)
   taken_under true wide r h = none
   taken_under false wide r h = values_under wide r h
@@ -137,12 +133,24 @@ module _ (n : ℕ) where
   ret_under : (ty : Ty) (r : ℕ) → r + 2 ≤ n → NamesBelow n (Ret (taken_at ty r))
   ret_under ty r h = record { written = none; read = taken_under (is_void ty) (is_wide (number_of ty)) r h }
 
-  back_under : (o : Option ℕ) (ty : Ty) (r : ℕ) → r + 2 ≤ n → Under (back_code o ty r)
-  back_under None ty r h = (ret_under ty r h, tt)
-  back_under (Some l) ty r h = (jump_under l, tt)
+  way_under : (w : Ways) (r : ℕ) (out : WayOut) → r + 2 ≤ n → NamesBelow n (way_out w r out)
+  way_under w r returning h = by w.return_to
+    where
+      by : (o : Option ℕ) → NamesBelow n (back o w.gives r)
+      by None = ret_under w.gives r h
+      by (Some l) = jump_under l
+  way_under w r breaking h = jump_under w.break_to
+  way_under w r continuing h = jump_under w.continue_to
 
-  return_under : (w : Ways) (r : ℕ) → r + 2 ≤ n → Under (return_code w r)
-  return_under w r h = under_both (ends_code w.return_from) (back_code w.return_to w.gives r) (ends_under w.return_from) (back_under w.return_to w.gives r h)
+  exit_under : (b : Bool) (o l : ℕ) (onward : Mid) → NamesBelow n onward → Under (exit_code b o l onward)
+  exit_under true o l onward h = (jump_under (l + 1), (label_under l, (end_under o, (h, (label_under (l + 1), tt)))))
+  exit_under false o l onward h = tt
+
+  exits_under : (may : WayOut → Bool) (w : Ways) (r l : ℕ) → r + 2 ≤ n → Under (exits_code may w r l)
+  exits_under may w r l h =
+      under_both (exit_code (may returning) w.status l (way_out w r returning)) _ (exit_under (may returning) w.status l (way_out w r returning) (way_under w r returning h))
+      (under_both (exit_code (may breaking) w.status (l + 2) (way_out w r breaking)) (exit_code (may continuing) w.status (l + 4) (way_out w r continuing))
+      (exit_under (may breaking) w.status (l + 2) (way_out w r breaking) (way_under w r breaking h)) (exit_under (may continuing) w.status (l + 4) (way_out w r continuing) (way_under w r continuing h)))
 
   same_under : (wide : Bool) (r l : ℕ) → r + 4 ≤ n → Under (same_code wide r l)
   same_under true r l h = (
@@ -326,12 +334,13 @@ module _ (n : ℕ) where
           under_both (expr_code p types checks spots e base (l + 1 + count_stmts list)) (z ++ (cs ++ Label l ∷ [])) (expr_under e base (l + 1 + count_stmts list) (omega (arith, h)))
           (under_both z (cs ++ Label l ∷ []) (cases_under (held p types e) cases (start_of_default cases) base l (omega (arith, room)))
           (under_both cs (Label l ∷ []) (switch_under list (in_switch l w) (l + 1) ls (omega (arith, h))) (label_under l, tt)))
-      stmt_under plain.break w l h = under_both (ends_code w.break_from) (Jump w.break_to ∷ []) (ends_under w.break_from) (jump_under w.break_to, tt)
-      stmt_under plain.continue w l h = under_both (ends_code w.continue_from) (Jump w.continue_to ∷ []) (ends_under w.continue_from) (jump_under w.continue_to, tt)
+      stmt_under plain.break w l h = (way_under w (base + 2) breaking (omega (arith, room)), tt)
+      stmt_under plain.continue w l h = (way_under w (base + 2) continuing (omega (arith, room)), tt)
       stmt_under (plain.return e) w l h =
-          under_both (returned_code p types checks spots base e w l) (return_code w (base + 2)) (returned_under e w l h) (return_under w (base + 2) (omega (arith, room)))
+          under_both (returned_code p types checks spots base e w l) (way_out w (base + 2) returning ∷ []) (returned_under e w l h) (way_under w (base + 2) returning (omega (arith, room)), tt)
       stmt_under (plain.atomic s) w l h =
-          (begin_under w.status, under_both (stmt_code p types checks spots base s (in_atomic w) l) (End w.status ∷ []) (stmt_under s (in_atomic w) l h) (end_under w.status, tt))
+          let exits : List Mid = End w.status ∷ exits_code (leads s) w (base + 2) l in
+          (begin_under w.status, under_both (stmt_code p types checks spots base s (in_atomic l w) (l + 6)) exits (stmt_under s (in_atomic l w) (l + 6) h) (end_under w.status, exits_under (leads s) w (base + 2) l (omega (arith, room))))
       stmt_under (plain.clear x) w l h = clear_under x l
       stmt_under (plain.here arguments first count body) w l h =
           let gives : Bool = gives_value body in

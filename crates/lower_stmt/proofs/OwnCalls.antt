@@ -34,7 +34,7 @@ use Rattle.lower_expr.specs.declared.spot.Spot.TheVariants.{Values, Frame}
 use Rattle.lower_expr.specs.Held.{held, is_signed}
 use Rattle.lower_expr.specs.Pieces.{binary_code, bits_code, bound_code, const_code, convert_code, count_code, distance_code, divisor_code, element_code, equal_code, fit_code, high_code, index_bound, move_code, offset_code, order_code, product_code, scaled_code, shift_code, sum_code, truth_code, unary_code, zero_code}
 use Rattle.lower_expr.specs.Code.{Kind, InValues, InFrame, InMemory, address_code, all_labels, args_code, expr_code, fetch_code, is_void, keep_code, kind_of, kind_of_spot, labels, load_code, local_code, peek_code, place_code, place_labels, put_code, take_code, taken_at}
-use Rattle.lower_stmt.specs.Code.{Ways, back_code, case_code, cases_code, clear_code, clears_code, ends_code, enter_code, here_gives, in_atomic, in_here, in_loop, in_switch, kept_code, label_of, maybe_labels, nothing_code, result_code, return_code, returned_code, same_code, step_code, stmt_code, stmt_labels, stmts_code, switch_code, zero_local_code, zero_regs_code}
+use Rattle.lower_stmt.specs.Code.{Ways, case_code, cases_code, clear_code, clears_code, enter_code, here_gives, in_atomic, in_here, in_loop, in_switch, kept_code, label_of, maybe_labels, nothing_code, result_code, returned_code, same_code, step_code, stmt_code, stmt_labels, stmts_code, switch_code, zero_local_code, zero_regs_code, WayOut, breaking, continuing, returning, back, exit_code, exits_code, leads, way_out}
 use Rattle.lower_stmt.specs.Bodies.{base_of, mid_fn_of, spots_of, ways_of}
 use Rattle.lower_stmt.specs.Bounds.{calls_in}
 use Rattle.lower_stmt.proofs.Common.{both_of}
@@ -323,16 +323,27 @@ module _ (p : Program) (types checks : List Ty) (spots : List Spot) (P : ℕ →
 nothing_silent : (ty : Ty) (r : ℕ) → Silent (nothing_code ty r)
 nothing_silent ty r = if_silent (is_void ty) _ _ (record { none = refl }) (const_silent (number_of ty) (pos 0) r)
 
-ends_silent : (os : List ℕ) → Silent (ends_code os)
-ends_silent [] = record { none = refl }
-ends_silent (o ∷ os) = record { none = (ends_silent os).none }
+way_calls_none : (w : Ways) (r : ℕ) (out : WayOut) (more : List Mid) → calls_in (way_out w r out ∷ more) ≡ calls_in more
+way_calls_none w r returning more = by w.return_to
+  where
+    by : (o : Option ℕ) → calls_in (back o w.gives r ∷ more) ≡ calls_in more
+    by None = refl
+    by (Some l) = refl
+way_calls_none w r breaking more = refl
+way_calls_none w r continuing more = refl
 
-back_silent : (o : Option ℕ) (ty : Ty) (r : ℕ) → Silent (back_code o ty r)
-back_silent None ty r = record { none = refl }
-back_silent (Some l) ty r = record { none = refl }
+way_silent : (w : Ways) (r : ℕ) (out : WayOut) → Silent (way_out w r out ∷ [])
+way_silent w r out = record { none = way_calls_none w r out [] }
 
-return_silent : (w : Ways) (r : ℕ) → Silent (return_code w r)
-return_silent w r = both_silent (ends_code w.return_from) (back_code w.return_to w.gives r) (ends_silent w.return_from) (back_silent w.return_to w.gives r)
+exit_silent : (b : Bool) (o l : ℕ) (w : Ways) (r : ℕ) (out : WayOut) → Silent (exit_code b o l (way_out w r out))
+exit_silent true o l w r out = record { none = way_calls_none w r out (Label (l + 1) ∷ []) }
+exit_silent false o l w r out = record { none = refl }
+
+exits_silent : (may : WayOut → Bool) (w : Ways) (r l : ℕ) → Silent (exits_code may w r l)
+exits_silent may w r l =
+    both_silent (exit_code (may returning) w.status l (way_out w r returning)) _ (exit_silent (may returning) w.status l w r returning)
+    (both_silent (exit_code (may breaking) w.status (l + 2) (way_out w r breaking)) (exit_code (may continuing) w.status (l + 4) (way_out w r continuing))
+    (exit_silent (may breaking) w.status (l + 2) w r breaking) (exit_silent (may continuing) w.status (l + 4) w r continuing))
 
 same_silent : (wide : Bool) (r l : ℕ) → Silent (same_code wide r l)
 same_silent true r l = record { none = refl }
@@ -452,10 +463,15 @@ module _ (p : Program) (types checks : List Ty) (spots : List Spot) (base : ℕ)
         calls_then (expr_code p types checks spots e base (l + 1 + count_stmts list)) _ (of_expr e base (l + 1 + count_stmts list) two.0)
         (calls_then (cases_code (held p types e) cases (start_of_default cases) base l) (cs ++ Label l ∷ []) (calls_none _ (cases_silent (held p types e) cases (start_of_default cases) base l))
         (calls_then cs (Label l ∷ []) (of_switch list (in_switch l w) (l + 1) ls two.1) (record { all = All-nil P })))
-    of_stmt plain.break w l h = calls_none _ (both_silent (ends_code w.break_from) (Jump w.break_to ∷ []) (ends_silent w.break_from) (record { none = refl }))
-    of_stmt plain.continue w l h = calls_none _ (both_silent (ends_code w.continue_from) (Jump w.continue_to ∷ []) (ends_silent w.continue_from) (record { none = refl }))
-    of_stmt (plain.return e) w l h = calls_then (returned_code p types checks spots base e w l) (return_code w (base + 2)) (of_returned e w l h) (calls_none _ (return_silent w (base + 2)))
-    of_stmt (plain.atomic s) w l h = record { all = (calls_then (stmt_code p types checks spots base s (in_atomic w) l) (End w.status ∷ []) (of_stmt s (in_atomic w) l h) (record { all = All-nil P })).all }
+    of_stmt plain.break w l h = calls_none _ (way_silent w (base + 2) breaking)
+    of_stmt plain.continue w l h = calls_none _ (way_silent w (base + 2) continuing)
+    of_stmt (plain.return e) w l h = calls_then (returned_code p types checks spots base e w l) (way_out w (base + 2) returning ∷ []) (of_returned e w l h) (calls_none _ (way_silent w (base + 2) returning))
+    of_stmt (plain.atomic s) w l h =
+        let x : List Mid = exits_code (leads s) w (base + 2) l in
+        record {
+          all = (calls_then (stmt_code p types checks spots base s (in_atomic l w) (l + 6)) (End w.status ∷ x) (of_stmt s (in_atomic l w) (l + 6) h)
+              (record { all = (calls_none x (exits_silent (leads s) w (base + 2) l)).all })).all;
+        }
     of_stmt (plain.clear x) w l h = of_clear x l
     of_stmt (plain.here arguments first count body) w l h =
         let two = both_of P (exprs_calls arguments) (stmt_calls body) h in

@@ -35,7 +35,7 @@ use Rattle.lower_stmt.specs.Runs.{Follows, IsGivenAt, MayStand, Setting, code, h
 use Rattle.lower_stmt.specs.Correct.{AreLabelled}
 use Rattle.lower_stmt.proofs.Common.{behind}
 use Rattle.lower_stmt.proofs.Exits.{nothing_runs}
-use Rattle.lower_stmt.proofs.Statements.{stmt_runs}
+use Rattle.lower_stmt.proofs.Statements.{statement_runs}
 use Rattle.lower_stmt.proofs.Spots.{frame_apart, frame_inside, in_values}
 use Rattle.lower_stmt.proofs.Entry.{entry_holds}
 use Rattle.lower_stmt.proofs.Alone.{heres_apart}
@@ -155,7 +155,7 @@ module _ (p : Program) (formed : IsWellFormed p) (ranked : HasNoCycle p) (labell
           (nothing_runs setting b.result mid out n (λ v locals. after v) env values frame own.given none h (λ v env1 values1 frame1 h1 given_at. returns v out values1 frame1 ret.0 given_at))
       left mid out end none ret Broke env values frame pc h at = absurd (cc at.0)
       left mid out end none ret Continued env values frame pc h at = absurd (cc at.0)
-      left mid out end none ret (Gave v) env values frame pc h at = returns v pc values frame at.1.1.0 at.0
+      left mid out end none ret (Gave v) env values frame pc h at = returns v pc values frame at.1 at.0
 
       pub body_runs : (vs : List ℤ) → AreOf (take b.params b.locals) vs →
           Runs codes n (run p b.locals calls turns b.code (λ flow locals. after (result flow)) (holding p.structs b.locals vs)) (entry codes g (passed (take b.params b.locals) vs) ∷ under)
@@ -169,7 +169,7 @@ module _ (p : Program) (formed : IsWellFormed p) (ranked : HasNoCycle p) (labell
           let at_start : entry codes g (passed (take b.params b.locals) vs) ∷ under ≡ here setting 0 first (λ (i : ℕ). 0) =
           ap (λ (fn : MidFn). record { f = g; at = 0; values = put_all (λ (i : ℕ). 0) fn.params (passed (take b.params b.locals) vs); frame = λ (i : ℕ). 0 } ∷ under) function in
           subst (λ s. Runs codes n (run p b.locals calls turns b.code (λ flow locals. after (result flow)) (holding p.structs b.locals vs)) s) (sym at_start)
-          ((stmt_runs setting b.code exits (ways_of p b) 0 0 s1.0 may s1.1).by n (λ flow locals. after (result flow)) (holding p.structs b.locals vs) first (λ (i : ℕ). 0) few
+          ((statement_runs setting b.code exits (ways_of p b) 0 0 s1.0 may s1.1).by n (λ flow locals. after (result flow)) (holding p.structs b.locals vs) first (λ (i : ℕ). 0) few
           (entry_holds p b.locals b.params vs own.params own.passed of) (left s1.0 s2.0 (length (body_code p (checks_of p) b)) s2.1 s2.2))
 
   -- ---- calls

@@ -72,11 +72,8 @@ abbrev pub ways_of : Program → Body → Ways
 ways_of p b = record {
   gives = b.result;
   return_to = None;
-  return_from = [];
   break_to = 0;
-  break_from = [];
   continue_to = 0;
-  continue_from = [];
   status = all_bytes p b.locals;
 }
 

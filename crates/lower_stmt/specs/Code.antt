@@ -1,6 +1,6 @@
 -- The code of statements (C99, 6.8; own: values from `base` on are free, a value that is returned comes to base + 2, and labels are
 -- those from l on).
-use Rattle.std.specs.Prelude.{ℕ, ℤ, pos, zero, suc, ◌+◌, ◌*◌, ◌-◌, Bool, true, false, List, [], ◌∷◌, ◌++◌, if◌then◌else◌, Option, Some, None, slice_get, slice_index_or}
+use Rattle.std.specs.Prelude.{ℕ, ℤ, pos, zero, suc, ◌+◌, ◌*◌, ◌-◌, Bool, true, false, List, [], ◌∷◌, ◌++◌, if◌then◌else◌, ◌&&◌, ◌||◌, Option, Some, None, slice_get, slice_index_or}
 use Rattle.std.specs.Ordering.{int_eq}
 use Rattle.nm_base.specs.declared.int_type.IntType.{IntType}
 use Rattle.nm_base.specs.IntType.{wrapped}
@@ -25,27 +25,61 @@ use Rattle.lower_expr.specs.Code.{labels, all_labels, expr_code, kind_of_spot, l
 
 -- ---- ways out of a statement
 
--- What a return gives and where it leads: back to the caller, or to a label behind an inlined call; where a break and a continue
--- lead; and for each of them where the Begins that it leaves saved the status, innermost first. The next Begin saves it at `status`
+-- how a statement may be left before its end
+pub data WayOut : Type 0 where
+  returning : WayOut
+  breaking : WayOut
+  continuing : WayOut
+
+-- loops take breaks and continues, switches take breaks
+abbrev pub passes_loop : WayOut → Bool
+passes_loop returning = true
+passes_loop breaking = false
+passes_loop continuing = false
+
+abbrev pub passes_switch : WayOut → Bool
+passes_switch returning = true
+passes_switch breaking = false
+passes_switch continuing = true
+
+-- some part of the statement leads out of it so
+abbrev mutual
+  pub leads : Stmt → WayOut → Bool
+  leads (plain.eval e) out = false
+  leads (plain.block list) out = some_leads list out
+  leads (plain.branch test a b) out = leads a out || leads b out
+  leads (plain.loop first test step body) out = passes_loop out && leads body out
+  leads (plain.switch e cases list) out = passes_switch out && some_leads list out
+  leads plain.break breaking = true
+  leads plain.break _ = false
+  leads plain.continue continuing = true
+  leads plain.continue _ = false
+  leads (plain.return e) returning = true
+  leads (plain.return e) _ = false
+  leads (plain.atomic s) out = leads s out
+  leads (plain.clear x) out = false
+  leads (plain.here arguments first count body) out = false
+
+  pub some_leads : Stmts → WayOut → Bool
+  some_leads no_stmts out = false
+  some_leads (more_stmts s rest) out = leads s out || some_leads rest out
+
+-- What a return gives; the labels that a return, a break and a continue lead to, where a return without one leads back to the caller.
+-- The next Begin saves the status at `status`
 pub record Ways : Type 0 where
   pub gives : Ty
   pub return_to : Option ℕ
-  pub return_from : List ℕ
   pub break_to : ℕ
-  pub break_from : List ℕ
   pub continue_to : ℕ
-  pub continue_from : List ℕ
   pub status : ℕ
 
-abbrev pub in_atomic : Ways → Ways
-in_atomic w = record {
+-- in an atomic statement, whose exits are at l, l + 2 and l + 4
+abbrev pub in_atomic : (l : ℕ) → Ways → Ways
+in_atomic l w = record {
   gives = w.gives;
-  return_to = w.return_to;
-  return_from = w.status ∷ w.return_from;
-  break_to = w.break_to;
-  break_from = w.status ∷ w.break_from;
-  continue_to = w.continue_to;
-  continue_from = w.status ∷ w.continue_from;
+  return_to = Some l;
+  break_to = l + 2;
+  continue_to = l + 4;
   status = w.status + 2;
 }
 
@@ -53,11 +87,8 @@ abbrev pub in_loop : (out next : ℕ) → Ways → Ways
 in_loop out next w = record {
   gives = w.gives;
   return_to = w.return_to;
-  return_from = w.return_from;
   break_to = out;
-  break_from = [];
   continue_to = next;
-  continue_from = [];
   status = w.status;
 }
 
@@ -65,11 +96,8 @@ abbrev pub in_switch : (out : ℕ) → Ways → Ways
 in_switch out w = record {
   gives = w.gives;
   return_to = w.return_to;
-  return_from = w.return_from;
   break_to = out;
-  break_from = [];
   continue_to = w.continue_to;
-  continue_from = w.continue_from;
   status = w.status;
 }
 
@@ -78,31 +106,33 @@ abbrev pub in_here : (out : ℕ) → Ty → Ways → Ways
 in_here out ty w = record {
   gives = ty;
   return_to = Some out;
-  return_from = [];
   break_to = out;
-  break_from = [];
   continue_to = out;
-  continue_from = [];
   status = w.status;
 }
 
-abbrev pub ends_code : List ℕ → List Mid
-ends_code [] = []
-ends_code (o ∷ os) = End o ∷ ends_code os
-
-abbrev pub break_code : Ways → List Mid
-break_code w = ends_code w.break_from ++ Jump w.break_to ∷ []
-
-abbrev pub continue_code : Ways → List Mid
-continue_code w = ends_code w.continue_from ++ Jump w.continue_to ∷ []
-
 -- with a value of this type at r
-abbrev pub back_code : Option ℕ → Ty → (r : ℕ) → List Mid
-back_code None ty r = Ret (taken_at ty r) ∷ []
-back_code (Some l) ty r = Jump l ∷ []
+abbrev pub back : Option ℕ → Ty → (r : ℕ) → Mid
+back None ty r = Ret (taken_at ty r)
+back (Some l) ty r = Jump l
 
-abbrev pub return_code : Ways → (r : ℕ) → List Mid
-return_code w r = ends_code w.return_from ++ back_code w.return_to w.gives r
+-- with a value that is returned at r
+abbrev pub way_out : Ways → (r : ℕ) → WayOut → Mid
+way_out w r returning = back w.return_to w.gives r
+way_out w r breaking = Jump w.break_to
+way_out w r continuing = Jump w.continue_to
+
+-- an exit at l of an atomic statement, whose status is saved at o; what comes from the end of the statement jumps over it
+abbrev pub exit_code : Bool → (o l : ℕ) → Mid → List Mid
+exit_code true o l onward = Jump (l + 1) ∷ Label l ∷ End o ∷ onward ∷ Label (l + 1) ∷ []
+exit_code false o l onward = []
+
+-- those that it has, from l on
+abbrev pub exits_code : (may : WayOut → Bool) → Ways → (r l : ℕ) → List Mid
+exits_code may w r l =
+    exit_code (may returning) w.status l (way_out w r returning)
+    ++ (exit_code (may breaking) w.status (l + 2) (way_out w r breaking)
+    ++ exit_code (may continuing) w.status (l + 4) (way_out w r continuing))
 
 -- ---- labels
 
@@ -120,7 +150,7 @@ abbrev mutual
   stmt_labels plain.break = 0
   stmt_labels plain.continue = 0
   stmt_labels (plain.return e) = maybe_labels e
-  stmt_labels (plain.atomic s) = stmt_labels s
+  stmt_labels (plain.atomic s) = 6 + stmt_labels s
   stmt_labels (plain.clear x) = 2
   stmt_labels (plain.here arguments first count body) = 1 + all_labels arguments + 2 * count + stmt_labels body
 
@@ -238,10 +268,10 @@ module _ (p : Program) (types checks : List Ty) (spots : List Spot) (base : ℕ)
         expr_code p types checks spots e base (l + 1 + count_stmts list)
         ++ (cases_code (held p types e) cases (start_of_default cases) base l
         ++ (switch_code list (in_switch l w) (l + 1) (l + 1 + count_stmts list + labels e) ++ Label l ∷ []))
-    stmt_code plain.break w l = break_code w
-    stmt_code plain.continue w l = continue_code w
-    stmt_code (plain.return e) w l = returned_code e w l ++ return_code w (base + 2)
-    stmt_code (plain.atomic s) w l = Begin w.status ∷ (stmt_code s (in_atomic w) l ++ End w.status ∷ [])
+    stmt_code plain.break w l = way_out w (base + 2) breaking ∷ []
+    stmt_code plain.continue w l = way_out w (base + 2) continuing ∷ []
+    stmt_code (plain.return e) w l = returned_code e w l ++ way_out w (base + 2) returning ∷ []
+    stmt_code (plain.atomic s) w l = Begin w.status ∷ (stmt_code s (in_atomic l w) (l + 6) ++ End w.status ∷ exits_code (leads s) w (base + 2) l)
     stmt_code (plain.clear x) w l = clear_code x l
     -- l is behind it
     stmt_code (plain.here arguments first count body) w l =

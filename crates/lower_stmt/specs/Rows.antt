@@ -57,9 +57,9 @@ unreturned = source.program [] [] (
     source.function [] (int I16) (branch (port_in 0x0132) (return (Some (source.number 5))) (block (source.statements [])) ∷ []) ∷ [])
 
 pub record WorkedRows : Type 0 where
-  -- while (1) atomic break; port_write(0x0130, 1); the label behind the loop is 1
+  -- while (1) atomic break; port_write(0x0130, 1); the label behind the loop is 1, and a break leaves the atomic statement at 5
   pub code : (fn_of (lowered source.broken) 0).code
-      ≡ Label 0 ∷ Tick ∷ Set 0 1 ∷ Set 2 0 ∷ Branch Eq 0 2 1 ∷ Begin 0 ∷ End 0 ∷ Jump 1 ∷ End 0 ∷ Label 2 ∷ Jump 0 ∷ Label 1
+      ≡ Label 0 ∷ Tick ∷ Set 0 1 ∷ Set 2 0 ∷ Branch Eq 0 2 1 ∷ Begin 0 ∷ Jump 5 ∷ End 0 ∷ Jump 6 ∷ Label 5 ∷ End 0 ∷ Jump 1 ∷ Label 6 ∷ Label 2 ∷ Jump 0 ∷ Label 1
       ∷ Set 0 1 ∷ Out 0x0130 0 ∷ Ret [] ∷ []
   pub break_ends_atomic : runs source.broken 40 [] ≡ source.ends (action.Tick ∷ action.Begin ∷ action.End ∷ action.Out 0x0130 1 ∷ [])
   pub falls_through : runs source.choosing 60 (1 ∷ []) ≡ source.ends (action.In 0x0132 ∷ action.Out 0x0130 1 ∷ action.Out 0x0130 2 ∷ [])

@@ -1,5 +1,5 @@
 -- That the code of a statement does what the statement does, however it is left (own).
-use Rattle.std.specs.Prelude.{ℤ, pos, ⊤, ◌≡◌, ◌⊎◌, ℕ, ◌+◌, ◌<◌, ◌≤◌, true, List}
+use Rattle.std.specs.Prelude.{ℤ, pos, ⊤, ◌≡◌, ◌⊎◌, ℕ, ◌+◌, ◌<◌, ◌≤◌, true, List, Some, slice_get}
 use Rattle.std.specs.List.{All}
 use Rattle.nm_base.specs.Behaviour.{Behaviour}
 use Rattle.nesc_core.specs.Plain.{Ty, Stmt, Stmts, Program, no_stmts, more_stmts}
@@ -22,7 +22,7 @@ use Rattle.lower_expr.specs.declared.spot.Spot.{Spot}
 use Rattle.lower_expr.specs.Locals.{Holds, IsResult}
 use Rattle.lower_expr.specs.Code.{is_void}
 use Rattle.lower_expr.specs.Runs.{CallsRun, Fits, IsReady, at_place}
-use Rattle.lower_stmt.specs.Code.{Ways, break_code, continue_code, return_code, stmt_code}
+use Rattle.lower_stmt.specs.Code.{Ways, returning, breaking, continuing, way_out, stmt_code}
 
 -- A function of a program's code over other calls, with locals of these types at these spots, and the values from `base` on free;
 -- calls of bodies with ranks below one, whose loops make at most so many turns, do what the bodies do
@@ -85,9 +85,9 @@ module _ (c : Setting) where
   -- where the machine stands when a statement that ends at a place is left
   abbrev pub LeftAt : Exits → Ways → (end : ℕ) → Flow → (pc : ℕ) → (values : ℕ → ℕ) → Type 0
   LeftAt exits w end On pc values = pc ≡ end
-  LeftAt exits w end Broke pc values = (exits.breaks ≡ true) × ((to : ℕ) × Stands code pc (break_code w) to)
-  LeftAt exits w end Continued pc values = (exits.continues ≡ true) × ((to : ℕ) × Stands code pc (continue_code w) to)
-  LeftAt exits w end (Gave v) pc values = IsGivenAt w.gives v values × ((to : ℕ) × Stands code pc (return_code w (c.base + 2)) to)
+  LeftAt exits w end Broke pc values = (exits.breaks ≡ true) × (slice_get code pc ≡ Some (way_out w (c.base + 2) breaking))
+  LeftAt exits w end Continued pc values = (exits.continues ≡ true) × (slice_get code pc ≡ Some (way_out w (c.base + 2) continuing))
+  LeftAt exits w end (Gave v) pc values = IsGivenAt w.gives v values × (slice_get code pc ≡ Some (way_out w (c.base + 2) returning))
 
   -- from there it does what comes after
   abbrev pub Follows : Exits → Ways → (end n : ℕ) → (Flow → Locals → Behaviour) → Type 0
