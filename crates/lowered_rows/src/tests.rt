@@ -1,4 +1,4 @@
-//! Numbers lowered and run in the open machine, beside what C gives.
+//! Numbers lowered and run in the open machine, and computed in the source, beside what C gives.
 
 ghost use Rattle.std.specs.Prelude.{◌≡◌, ◌<◌, IfOk, [], length};
 ghost use Rattle.nm_base.specs.declared.int_type.IntType.TheVariants as int_type;
@@ -9,6 +9,7 @@ ghost use Rattle.mid_code.specs.Machine.{fn_of};
 ghost use Rattle.lowered_rows.specs.Numbers as rows;
 ghost use Rattle.lowered_rows.specs.Numbers.{IsWritable};
 
+use core_act::act;
 use expr_emitter::lower_expr;
 use mid_code::{Action, Mid, MidCode, MidFn, open_start, open_step};
 use nesc_core::{BinOp, Body, CoreExpr, CoreStmt, CoreType, Program, Structs, UnOp};
@@ -201,12 +202,23 @@ fn written(alloc: Global, number: u8) -> Result<Option<u16>, NoMemory> {
     first_write(alloc, &c)
 }
 
+// What the row's program does in the source.
+fn actions(alloc: Global, number: u8) -> Result<Vec<Action>, NoMemory> {
+    let p = program(alloc, row(alloc, number)?)?;
+    act(alloc, &p, 0, &[], 0)
+}
+
 #[test]
 fn numbers(rt: HostRuntime) -> Result<(), Fail> {
     let wanted = [300, 44, 32768, 0, 65535, 0, 4464, 65533, 65535];
     for (k, value) in wanted.iter().enumerate() {
         let found = written(rt.alloc(), k as u8).ok().flatten();
         assert_eq!(rt; found, Some(*value));
+        let wanted = [Action::Begin, Action::Out(PORT, *value), Action::End];
+        match actions(rt.alloc(), k as u8) {
+            Ok(done) => assert_eq!(rt; done.as_slice(), wanted.as_slice()),
+            Err(_) => assert!(rt; false),
+        }
     }
     Ok(())
 }
