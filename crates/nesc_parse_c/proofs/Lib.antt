@@ -5,3 +5,6 @@ pub mod Heights
 pub mod Stars
 pub mod Bases
 pub mod Turns
+pub mod Dispatch
+pub mod Climb
+pub mod Opened

@@ -5,18 +5,13 @@ ghost use Rattle.nesc_tree.specs.Form.{goes};
 ghost use Rattle.nesc_tree.specs.Grammar as grammar;
 ghost use Rattle.nesc_parse_c.specs.Gives.{Gives, Nests, form_in};
 
+use crate::precedence::is_comma;
 use crate::reader::{Reader, expect, name};
 use crate::stop::{Found, Stop};
 use crate::type_parts::{enum_type, first_item, item_of, more_items};
 use nesc_tree::{CastType, Fields, Item, Items, Operand, Sort, TypeNames, ahead, level, same_sort};
 use nm_base::{Name, Token};
 use std::alloc::Global;
-
-fn is_comma(sort: Sort) -> bool
-    ensures { result ≡ grammar.is_comma sort }
-{
-    matches!(sort, Sort::Comma)
-}
 
 // Whether a comma may go on the constants.
 fn goes_on(so_far: &Items, sort: Sort) -> bool

@@ -4,6 +4,7 @@ ghost use Rattle.std.specs.Prelude.{◌≡◌, ◌≤◌, ◌<◌, ◌^◌, IfOk
 ghost use Rattle.nesc_tree.specs.Grammar as grammar;
 ghost use Rattle.nesc_parse_c.specs.Gives.{Gives, Nests, form_in};
 
+use crate::precedence::is_comma;
 use crate::reader::{Reader, expect, name};
 use crate::stop::{Found, Stop};
 use crate::type_parts::{
@@ -21,12 +22,6 @@ fn is_bracket(sort: Sort) -> bool
     ensures { result ≡ grammar.is_bracket sort }
 {
     matches!(sort, Sort::LBracket)
-}
-
-fn is_comma(sort: Sort) -> bool
-    ensures { result ≡ grammar.is_comma sort }
-{
-    matches!(sort, Sort::Comma)
 }
 
 impl<

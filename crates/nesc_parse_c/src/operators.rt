@@ -57,8 +57,8 @@ pub fn is_spelled(token: &Token, text: &[u8]) -> bool
     token.text.as_bytes() == text
 }
 
-// What stands in the row with the token's spelling, or else the other.
-fn row_of<T: Copy>(rows: &[(&[u8], T)], token: &Token, other: T) -> T
+/// What stands in the row with the token's spelling, or else the other.
+pub fn row_of<T: Copy>(rows: &[(&[u8], T)], token: &Token, other: T) -> T
     ensures { result ≡ row_of (map (λ row. (row.0.now, row.1)) rows.now) token.now other }
 {
     match rows {

@@ -143,3 +143,10 @@ pub fn goes_on(least: u8, left: &Operand, operator: Sort) -> bool
 {
     is_operator(operator) && least <= binds(operator) && needs(operator) <= left.level
 }
+
+/// Whether it is the comma between parts of a list.
+pub fn is_comma(sort: Sort) -> bool
+    ensures { result ≡ grammar.is_comma sort }
+{
+    matches!(sort, Sort::Comma)
+}
