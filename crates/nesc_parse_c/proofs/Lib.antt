@@ -8,3 +8,6 @@ pub mod Turns
 pub mod Dispatch
 pub mod Climb
 pub mod Opened
+pub mod Told
+pub mod FromPlace
+pub mod Refusals

@@ -1,0 +1,43 @@
+-- Reading once more, with a token behind what was read, tells whether this token could stand there.
+use Rattle.std.specs.Prelude.{◌≡◌, ℕ, Bool, true, false, List, [], ◌∷◌, Option, Some, None, Ok, Err}
+use Rattle.nm_base.specs.declared.token.Token.{Token}
+use Rattle.nm_base.specs.declared.refusal.Left.{Left}
+use Rattle.nesc_tree.specs.Sorts.{Names}
+use Rattle.nesc_tree.specs.Phrase.{Phrase, Of}
+use Rattle.nesc_tree.specs.Level as level
+use Rattle.nesc_tree.specs.Reading.{Syntax, Deep, Answer}
+use Rattle.nesc_tree.specs.Laws.{answer}
+use Rattle.nesc_tree.specs.Reach.{BeginsIn}
+use Rattle.nesc_parse_c.specs.declared.probes.Wanted.{Wanted}
+use Rattle.nesc_parse_c.specs.declared.probes.Wanted.TheVariants as wanted
+use Rattle.nesc_parse_c.specs.declared.left.Place.{Place}
+use Rattle.nesc_parse_c.specs.Left.{row, IsMeant}
+use Rattle.nesc_parse_c.specs.Parsed.{most}
+
+-- what is read
+abbrev pub phrase_of : Wanted → Phrase
+phrase_of wanted.Expr = Phrase.expr level.comma
+phrase_of wanted.Type = Phrase.type
+
+abbrev pub read_of : (k : Phrase) → Names → List Token → Answer (Of k)
+read_of k names ts = answer (most k) k names ts
+
+abbrev pub is_empty : List Token → Bool
+is_empty [] = true
+is_empty (t ∷ ts) = false
+
+-- whether reading came to the last token, which alone may be too deep
+abbrev pub is_ended : {A : Type 0} → Answer A → Bool
+is_ended (Ok x) = is_empty x.1.rest
+is_ended (Err (Syntax ts)) = is_empty ts
+is_ended (Err (Deep ts)) = true
+
+-- whether it is so
+abbrev pub Tells : Type 0 → Bool → Type 0
+Tells X true = X
+Tells X false = X → ⊥
+
+-- which form that is left out the token begins behind these
+abbrev pub TellsForm : (k : Phrase) → Names → List Token → Token → Option Left → Type 0
+TellsForm k names before t (Some word) = (place : Place) × (row t ≡ Some (word, place)) × IsMeant k names before place
+TellsForm k names before t None = (word : Left) (place : Place) → row t ≡ Some (word, place) → IsMeant k names before place → ⊥
