@@ -1,6 +1,6 @@
 -- The code of statements (C99, 6.8; own: values from `base` on are free, a value that is returned comes to base + 2, and labels are
 -- those from l on).
-use Rattle.std.specs.Prelude.{ℕ, ℤ, pos, zero, suc, ◌+◌, ◌*◌, ◌-◌, Bool, true, false, List, [], ◌∷◌, ◌++◌, if◌then◌else◌, ◌&&◌, ◌||◌, Option, Some, None, slice_get, slice_index_or}
+use Rattle.std.specs.Prelude.{ℕ, ℤ, pos, zero, suc, ◌+◌, ◌*◌, ◌-◌, Bool, true, false, List, [], ◌∷◌, ◌++◌, if◌then◌else◌, ◌&&◌, ◌||◌, not, Option, Some, None, slice_get, slice_index_or}
 use Rattle.std.specs.Ordering.{int_eq}
 use Rattle.nm_base.specs.declared.int_type.IntType.{IntType}
 use Rattle.nm_base.specs.IntType.{wrapped}
@@ -31,31 +31,32 @@ pub data WayOut : Type 0 where
   breaking : WayOut
   continuing : WayOut
 
--- loops take breaks and continues, switches take breaks
-abbrev pub passes_loop : WayOut → Bool
-passes_loop returning = true
-passes_loop breaking = false
-passes_loop continuing = false
+abbrev pub is_return : WayOut → Bool
+is_return returning = true
+is_return breaking = false
+is_return continuing = false
 
-abbrev pub passes_switch : WayOut → Bool
-passes_switch returning = true
-passes_switch breaking = false
-passes_switch continuing = true
+abbrev pub is_break : WayOut → Bool
+is_break returning = false
+is_break breaking = true
+is_break continuing = false
 
--- some part of the statement leads out of it so
+abbrev pub is_continue : WayOut → Bool
+is_continue returning = false
+is_continue breaking = false
+is_continue continuing = true
+
+-- some part of the statement leads out of it so: loops take breaks and continues, switches take breaks
 abbrev mutual
   pub leads : Stmt → WayOut → Bool
   leads (plain.eval e) out = false
   leads (plain.block list) out = some_leads list out
   leads (plain.branch test a b) out = leads a out || leads b out
-  leads (plain.loop first test step body) out = passes_loop out && leads body out
-  leads (plain.switch e cases list) out = passes_switch out && some_leads list out
-  leads plain.break breaking = true
-  leads plain.break _ = false
-  leads plain.continue continuing = true
-  leads plain.continue _ = false
-  leads (plain.return e) returning = true
-  leads (plain.return e) _ = false
+  leads (plain.loop first test step body) out = is_return out && leads body out
+  leads (plain.switch e cases list) out = not (is_break out) && some_leads list out
+  leads plain.break out = is_break out
+  leads plain.continue out = is_continue out
+  leads (plain.return e) out = is_return out
   leads (plain.atomic s) out = leads s out
   leads (plain.clear x) out = false
   leads (plain.here arguments first count body) out = false
