@@ -1,0 +1,10 @@
+pub mod Clears
+pub mod Orders
+pub mod Fitting
+pub mod Framed
+pub mod Dereferenced
+pub mod Counts
+pub mod Items
+pub mod Switches
+pub mod Placed
+pub mod HereCode

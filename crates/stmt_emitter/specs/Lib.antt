@@ -1,0 +1,5 @@
+pub mod Standing
+pub mod Starts
+pub mod Located
+pub mod Programs
+pub mod Wholes

@@ -1,0 +1,20 @@
+//! The emitter of statements and bodies: a wired program written as middle code.
+#![tactic(auto)]
+
+mod bodies;
+mod cases;
+mod checks;
+mod given;
+mod leads;
+mod levels;
+mod locals;
+mod lowering;
+mod numbers;
+mod put;
+mod spots;
+mod statements;
+mod turns;
+mod types;
+mod ways;
+
+pub use lowering::lower;
