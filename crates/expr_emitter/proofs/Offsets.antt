@@ -1,5 +1,5 @@
 -- Fields lie inside their struct, whose size fits in 16 bits.
-use Rattle.std.proofs.Common.{◌≡◌, ℕ, zero, suc, ◌+◌, ◌<◌, ◌≤◌, List, [], ◌∷◌, length, map, take, fold, get_or, arith, ap, sym, subst}
+use Rattle.std.proofs.Common.{◌≡◌, ℕ, zero, suc, ◌<◌, ◌≤◌, List, [], ◌∷◌, length, map, take, fold, get_or, arith, subst}
 use Rattle.std.specs.Prelude.{slice_get}
 use Rattle.nesc_core.specs.declared.layout.Layout.{Layout}
 use Rattle.nesc_core.specs.Plain.{Ty, void, int, pointer, array, struct, Field}

@@ -1,6 +1,6 @@
 -- What the types of expressions tell: as which number they are held, whether they have a value, and that their places have sizes.
-use Rattle.std.proofs.Common.{◌≡◌, ℕ, zero, suc, ◌<◌, ◌≤◌, Bool, true, false, List, [], ◌∷◌, length, map, take, get_or, Option, Some, None, ap, sym, ◌∙◌, refl, subst, arith}
-use Rattle.std.specs.Prelude.{⊤, slice_get, slice_index_or}
+use Rattle.std.proofs.Common.{◌≡◌, ℕ, zero, suc, ◌≤◌, false, List, [], ◌∷◌, length, take, get_or, Option, Some, None, ap, sym, refl, subst, arith}
+use Rattle.std.specs.Prelude.{slice_get, slice_index_or}
 use Rattle.std.specs.List.{All}
 use Rattle.nm_base.specs.declared.int_type.IntType.{IntType}
 use Rattle.nm_base.specs.declared.int_type.IntType.TheVariants.{U16}
@@ -10,8 +10,8 @@ use Rattle.nesc_core.specs.declared.tree.BinOp.TheVariants as bin
 use Rattle.nesc_core.specs.Plain.{Ty, void, int, pointer, array, struct, Expr, Exprs, no_exprs, more_exprs, Place, Field, Object, Body, Program}
 use Rattle.nesc_core.specs.Plain as plain
 use Rattle.nesc_core.specs.PlaceTypes.{place_type, element_of, field_type, fields_of, object_type}
-use Rattle.nesc_core.specs.Size.{struct_at, NamesBelow, IsSmall, AreSized, IsSized}
-use Rattle.nesc_core.specs.Typing.{Has, AllHave, Have, IsPlace, IsType, IsArray, IsScalar, IsCallable, IsSecond, IsStepped, IsPointer, IsPromoted, IsUpdated, PointsWell}
+use Rattle.nesc_core.specs.Size.{NamesBelow, AreSized, IsSized}
+use Rattle.nesc_core.specs.Typing.{Has, AllHave, IsPlace, IsType, IsArray, IsScalar, IsCallable, IsSecond, IsStepped, IsPointer, IsUpdated}
 use Rattle.lower_expr.specs.Code.{is_void}
 use Rattle.lower_expr.specs.Held.{held, result_of}
 use Rattle.expr_emitter.specs.Results.{is_empty}

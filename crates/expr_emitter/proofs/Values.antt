@@ -1,5 +1,5 @@
 -- The code of an expression names values below a bound that its levels give.
-use Rattle.std.proofs.Common.{◌≡◌, ℕ, ℤ, zero, suc, ◌+◌, ◌*◌, ◌<◌, ◌≤◌, Bool, true, false, List, [], ◌∷◌, ◌++◌, length, get_or, refl, sym, ap, ◌∙◌, subst, arith, max}
+use Rattle.std.proofs.Common.{◌≡◌, ℕ, ℤ, zero, suc, ◌+◌, ◌*◌, ◌<◌, ◌≤◌, Bool, true, false, List, [], ◌∷◌, ◌++◌, refl, arith}
 use Rattle.std.specs.Prelude.{⊤, ◌==◌, ◌%◌, ◌/◌, Option, Some, None, slice_get, if◌then◌else◌}
 use Rattle.std.specs.List.{All}
 use Rattle.nm_base.specs.declared.int_type.IntType.{IntType}
@@ -11,7 +11,7 @@ use Rattle.mid_code.specs.declared.instr.Op.TheVariants.{Add, Sub, And, Or, Xor}
 use Rattle.mid_code.specs.declared.instr.Test.{Test}
 use Rattle.mid_code.specs.declared.instr.Test.TheVariants.{Eq, Ne, LtU}
 use Rattle.mid_code.specs.declared.instr.Mid.{Mid}
-use Rattle.mid_code.specs.declared.instr.Mid.TheVariants.{Set, Move, Bin, Carry, Load, Store, Peek, Poke, In, Out, Label, Jump, Branch, Call, Help, Post, Tick, Fault}
+use Rattle.mid_code.specs.declared.instr.Mid.TheVariants.{Set, Move, Bin, Carry, Load, Store, Peek, Poke, In, Out, Label, Jump, Branch, Help, Post, Tick, Fault}
 use Rattle.mid_code.specs.Form.{AreBelow}
 use Rattle.mid_code.specs.Help.{is_wide}
 use Rattle.nesc_core.specs.declared.tree.UnOp.{UnOp}
@@ -29,7 +29,7 @@ use Rattle.lower_expr.specs.declared.spot.Spot.{Spot}
 use Rattle.lower_expr.specs.declared.spot.Spot.TheVariants.{Values, Frame}
 use Rattle.lower_expr.specs.Held.{held, is_signed, result_of}
 use Rattle.lower_expr.specs.Pieces.{const_code, move_code, values_at, fit_code, widen_code, high_code, convert_code, truth_code, zero_code, unary_code, sum_code, bits_code, divisor_code, product_code, count_code, shift_code, equal_code, order_code, binary_code, scaled_code, index_bound, bound_code, element_code, offset_code, distance_code}
-use Rattle.lower_expr.specs.Code.{labels, place_labels, all_labels, expr_code, place_code, args_code, kind_of, kind_of_spot, Kind, InValues, InFrame, InMemory, value_named, sign_code, load_code, peek_code, store_code, poke_code, take_code, keep_code, fetch_code, put_code, local_code, address_code, passed_at, taken_at, is_void}
+use Rattle.lower_expr.specs.Code.{labels, place_labels, expr_code, place_code, args_code, kind_of, kind_of_spot, Kind, InValues, InFrame, InMemory, sign_code, load_code, peek_code, store_code, poke_code, take_code, keep_code, fetch_code, put_code, local_code, address_code, passed_at, is_void}
 use Rattle.expr_emitter.specs.Laws.{NamesBelow, AreSpotsBelow, AreRegsBelow}
 use Rattle.expr_emitter.specs.Scoped.{update_code}
 

@@ -3,7 +3,7 @@ use Rattle.std.specs.Prelude.{◌≡◌, ℕ, pos, negsuc, true, false, List, []
 use Rattle.nm_base.specs.declared.int_type.IntType.TheVariants.{I8, U8, I16, U16, I32, U32}
 use Rattle.nesc_core.specs.declared.tree.UnOp.TheVariants.{Neg, Not, IsZero}
 use Rattle.nesc_core.specs.declared.tree.BinOp.TheVariants as op
-use Rattle.nesc_core.specs.Plain.{Ty, Expr, Place, Field, Program, void, int, pointer, array, struct, no_exprs, more_exprs, object, local, deref, index, field, const, null, read, addr, un, bin, convert, offset, distance, both, either, choice, assign, update, call, post, port_in, port_out, comma}
+use Rattle.nesc_core.specs.Plain.{Ty, Expr, Field, Program, void, int, array, struct, no_exprs, more_exprs, object, local, deref, index, field, const, null, read, addr, un, bin, convert, offset, distance, both, either, choice, assign, update, call, post, port_in, port_out, comma}
 use Rattle.core_meaning.specs.Rows.{at, variable, function, program, number}
 use Rattle.mid_code.specs.declared.instr.Op.TheVariants.{Add, Sub, And, Or, Xor}
 use Rattle.mid_code.specs.declared.instr.Test.TheVariants.{Eq, Ne, Lt, Le, LtU, LeU}

@@ -1,5 +1,5 @@
 -- What the emitter answers: the first label that code does not name, and the values that hold a result (own).
-use Rattle.std.specs.Prelude.{ℕ, suc, ◌+◌, max, Bool, true, false, List, [], ◌∷◌, Option, Some, None, slice_get, if◌then◌else◌}
+use Rattle.std.specs.Prelude.{ℕ, suc, ◌+◌, max, Bool, true, false, List, [], ◌∷◌, Some, None, slice_get, if◌then◌else◌}
 use Rattle.mid_code.specs.declared.instr.Mid.{Mid}
 use Rattle.mid_code.specs.declared.instr.Mid.TheVariants.{Label, Jump, Branch}
 use Rattle.mid_code.specs.Help.{is_wide}

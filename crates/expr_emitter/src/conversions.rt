@@ -14,7 +14,7 @@ use nesc_core::UnOp;
 use nm_base::{IntType, NoMemory};
 
 /// A number to `r`.
-pub(crate) fn put_const(code: &mut Vec<Mid>, t: IntType, x: i64, r: u32) -> Result<(), NoMemory>
+pub fn put_const(code: &mut Vec<Mid>, t: IntType, x: i64, r: u32) -> Result<(), NoMemory>
     requires { r + 1 < 2 ^ 32 }
     ensures { OnOk result (code.new.items ≡ code.old.items ++ const_code t x r) }
 {
@@ -129,13 +129,7 @@ pub(crate) fn put_falsity(code: &mut Vec<Mid>, r: u32, l: u32) -> Result<(), NoM
 }
 
 /// A number at `r` compared with 0, which goes to the label.
-pub(crate) fn put_zero(
-    code: &mut Vec<Mid>,
-    test: Test,
-    wide: bool,
-    r: u32,
-    l: u32,
-) -> Result<(), NoMemory>
+pub fn put_zero(code: &mut Vec<Mid>, test: Test, wide: bool, r: u32, l: u32) -> Result<(), NoMemory>
     requires { r + 2 < 2 ^ 32 }
     ensures { OnOk result (code.new.items ≡ code.old.items ++ zero_code test wide r l) }
 {

@@ -22,11 +22,10 @@ use crate::pieces::{Change, put_call, put_check, put_post, put_update};
 use crate::put::{push_values, put};
 use crate::scope::Scope;
 use crate::types::{
-    check_of, count_of, element_of, field_offset, field_type, number_of, object_address,
-    object_type, result_type, size_of,
+    check_of, count_of, field_offset, number_of, object_address, object_type, result_type, size_of,
 };
 use mid_code::{Mid, Op, Test};
-use nesc_core::{BinOp, CoreExpr, CoreType, Place, UnOp};
+use nesc_core::{BinOp, CoreExpr, CoreType, Place, UnOp, element_of, field_type};
 use nm_base::{IntType, List, NoMemory};
 use std::alloc::Global;
 

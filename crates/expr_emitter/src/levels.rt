@@ -10,7 +10,7 @@ use nm_base::List;
 
 /// The levels of an expression.
 #[cycle(levels)]
-pub(crate) fn expr_levels(e: &CoreExpr) -> u32
+pub fn expr_levels(e: &CoreExpr) -> u32
     requires { weights.expr_levels (expr_of e.now) < 2 ^ 32 }
     ensures { result ≡ weights.expr_levels (expr_of e.now) }
 {

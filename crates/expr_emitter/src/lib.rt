@@ -2,20 +2,20 @@
 #![tactic(auto)]
 
 mod accesses;
-mod conversions;
+pub mod conversions;
 mod elements;
 mod expressions;
 mod kinds;
 mod laws;
-mod levels;
+pub mod levels;
 mod lowering;
-mod numbers;
+pub mod numbers;
 mod operators;
 mod pieces;
-mod put;
+pub mod put;
 mod rows;
 mod scope;
-mod types;
+pub mod types;
 
 pub use expressions::emit_expr;
 pub use laws::{labels_differ, values_below};

@@ -8,7 +8,7 @@ use nm_base::NoMemory;
 use std::alloc::Global;
 
 /// One more instruction.
-pub(crate) fn put(code: &mut Vec<Mid>, instr: Mid) -> Result<(), NoMemory>
+pub fn put(code: &mut Vec<Mid>, instr: Mid) -> Result<(), NoMemory>
     ensures { OnOk result (code.new.items ≡ code.old.items ++ instr ∷ []) }
 {
     code.push(instr)?;

@@ -11,11 +11,11 @@ ghost use Rattle.nesc_core.specs.PlaceTypes.{fields_of, type_in};
 ghost use Rattle.nesc_core.specs.Size.{AreSized, IsSized, layout_of};
 ghost use Rattle.nesc_core.specs.View.{field_of, object_of, program_of, structs_of, type_of};
 
-use nesc_core::{CoreType, Field, Program, Structs};
-use nm_base::{IntType, List};
+use nesc_core::{CoreType, Program, Structs, is_same_type};
+use nm_base::IntType;
 
 /// As which integer a value of the type is held.
-pub(crate) fn number_of(t: Option<&CoreType>) -> IntType
+pub fn number_of(t: Option<&CoreType>) -> IntType
     ensures { result ≡ work.number_of (type_in (option_copied t.entry)) }
 {
     match t {
@@ -27,7 +27,7 @@ pub(crate) fn number_of(t: Option<&CoreType>) -> IntType
 }
 
 /// Whether there is no value of the type.
-pub(crate) fn is_void(t: Option<&CoreType>) -> bool
+pub fn is_void(t: Option<&CoreType>) -> bool
     ensures { result ≡ spec.is_void (type_in (option_copied t.entry)) }
 {
     match t {
@@ -35,16 +35,6 @@ pub(crate) fn is_void(t: Option<&CoreType>) -> bool
         Some(
             CoreType::Int(_) | CoreType::Pointer(_) | CoreType::Array(_, _) | CoreType::Struct(_),
         ) => false,
-    }
-}
-
-/// The type of an array's elements.
-pub(crate) fn element_of(t: Option<&CoreType>) -> Option<&CoreType>
-    ensures { type_in (option_copied result) ≡ places.element_of (type_in (option_copied t.entry)) }
-{
-    match t? {
-        CoreType::Array(element, _) => Some(element),
-        CoreType::Void | CoreType::Int(_) | CoreType::Pointer(_) | CoreType::Struct(_) => None,
     }
 }
 
@@ -60,7 +50,7 @@ pub(crate) fn count_of(t: Option<&CoreType>) -> u32
 }
 
 /// The size of a type in bytes.
-pub(crate) fn size_of(s: &Structs, t: Option<&CoreType>) -> u32
+pub fn size_of(s: &Structs, t: Option<&CoreType>) -> u32
     requires structs { AreSized (structs_of s.now) }
     requires sized { IsSized (structs_of s.now) (type_in (option_copied t)) }
     ensures { result ≡ (layout_of (structs_of s.now) (type_in (option_copied t.entry))).size }
@@ -69,27 +59,6 @@ pub(crate) fn size_of(s: &Structs, t: Option<&CoreType>) -> u32
         None => 0,
         Some(t) => nesc_core::size(s, t),
     }
-}
-
-/// The type of a field.
-pub(crate) fn field_type<'a>(
-    s: &'a Structs,
-    t: Option<&'a CoreType>,
-    k: u32,
-) -> Option<&'a CoreType>
-    ensures { type_in (option_copied result) ≡ places.field_type (slice_get (fields_of (structs_of s.now) (type_in (option_copied t.entry))) k) }
-{
-    match t? {
-        CoreType::Struct(n) => type_of_field(s.structs.as_slice().get(*n as usize)?, k),
-        CoreType::Void | CoreType::Int(_) | CoreType::Pointer(_) | CoreType::Array(_, _) => None,
-    }
-}
-
-fn type_of_field(fields: &List<Field>, k: u32) -> Option<&CoreType>
-    ensures { type_in (option_copied result) ≡ places.field_type (slice_get (map field_of fields.now) k) }
-{
-    let field = fields.as_slice().get(k as usize)?;
-    Some(&field.ty)
 }
 
 /// How far from its struct's address a field lies.
@@ -141,39 +110,6 @@ pub(crate) fn result_type(p: &Program, f: u32) -> Option<&CoreType>
     Some(&body.result)
 }
 
-fn same_type(t: &CoreType, u: &CoreType) -> bool
-    ensures { result ≡ parts.same_type (type_of t.now) (type_of u.now) }
-{
-    match t {
-        CoreType::Void => matches!(u, CoreType::Void),
-        CoreType::Int(int) => match u {
-            CoreType::Int(other) => same_int(*int, *other),
-            CoreType::Void | CoreType::Pointer(_) | CoreType::Array(_, _) | CoreType::Struct(_) =>
-                false,
-        },
-        CoreType::Pointer(to) => match u {
-            CoreType::Pointer(other) => same_type(to, other),
-            CoreType::Void | CoreType::Int(_) | CoreType::Array(_, _) | CoreType::Struct(_) =>
-                false,
-        },
-        CoreType::Array(element, count) => match u {
-            CoreType::Array(other, len) => *count == *len && same_type(element, other),
-            CoreType::Void | CoreType::Int(_) | CoreType::Pointer(_) | CoreType::Struct(_) => false,
-        },
-        CoreType::Struct(k) => match u {
-            CoreType::Struct(other) => *k == *other,
-            CoreType::Void | CoreType::Int(_) | CoreType::Pointer(_) | CoreType::Array(_, _) =>
-                false,
-        },
-    }
-}
-
-fn same_int(t: IntType, u: IntType) -> bool
-    ensures { result ≡ parts.same_int t u }
-{
-    t == u
-}
-
 /// The place of a type in the list of checks, or the place behind them.
 pub(crate) fn check_of(checks: &[CoreType], t: &CoreType) -> u32
     requires { length checks.now < 2 ^ 31 }
@@ -183,7 +119,7 @@ pub(crate) fn check_of(checks: &[CoreType], t: &CoreType) -> u32
     let mut rest = checks;
     let mut place = 0;
     while let [first, others @ ..] = rest {
-        if same_type(first, t) {
+        if is_same_type(first, t) {
             return place;
         }
         place += 1;

@@ -1,5 +1,5 @@
 -- What a well-formed program dereferences has a size and some byte, and its objects lie well.
-use Rattle.std.proofs.Common.{◌≡◌, ℕ, zero, suc, ◌+◌, ◌<◌, ◌≤◌, Bool, true, false, List, [], ◌∷◌, ◌++◌, Option, Some, None, take, drop, get_or, arith}
+use Rattle.std.proofs.Common.{ℕ, suc, ◌+◌, ◌≤◌, Bool, true, false, List, [], ◌∷◌, ◌++◌, Option, Some, None, take, drop, arith}
 use Rattle.std.specs.Prelude.{if◌then◌else◌, slice_get}
 use Rattle.std.specs.List.{All, flat_map, list_any}
 use Rattle.std.proofs.lemmas.List.Elements.{All-cons, All-nil}
@@ -13,7 +13,6 @@ use Rattle.nesc_core.specs.Derefs.{derefs, expr_derefs, exprs_derefs, place_dere
 use Rattle.nesc_core.specs.Parts.{LiesWell, same_type}
 use Rattle.nesc_core.specs.Size.{layout_of}
 use Rattle.nesc_core.specs.Typing.{AllHave, Has, IsCallable, IsPlace, IsSecond, IsType, PointsWell}
-use Rattle.nesc_core.specs.Weights.{objects_start}
 use Rattle.nesc_core.specs.WellFormed.{Exits, by_return, in_loop, in_switch, by_result, count_exprs, IsDone, IsGiven, IsStmt, AreStmts, IsBody, IsWellFormed, LieFrom}
 use Rattle.lower_stmt.specs.Bodies.{checks_of, in_order}
 

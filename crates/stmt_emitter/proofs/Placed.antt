@@ -1,5 +1,5 @@
 -- Bodies of a well-formed program stand where they can be emitted.
-use Rattle.std.proofs.Common.{◌≡◌, ℕ, zero, suc, ◌+◌, ◌*◌, ◌<◌, ◌≤◌, ◌^◌, List, [], ◌∷◌, Some, length, map, take, refl, ap, ◌∙◌, subst, arith}
+use Rattle.std.proofs.Common.{◌≡◌, ℕ, zero, suc, ◌+◌, ◌*◌, ◌<◌, ◌≤◌, ◌^◌, List, [], ◌∷◌, Some, length, map, take, refl, ap, subst, arith}
 use Rattle.std.specs.Prelude.{slice_get}
 use Rattle.std.specs.List.{All}
 use Rattle.nesc_core.specs.declared.tree.CoreType.{CoreType}
@@ -10,7 +10,7 @@ use Rattle.nesc_core.specs.Weights.{stmt_atomics, stmt_levels}
 use Rattle.nesc_core.specs.WellFormed.{by_return, IsBody, IsWellFormed}
 use Rattle.lower_expr.specs.declared.spot.Spot.{Spot}
 use Rattle.lower_expr.specs.declared.spot.Spot.TheVariants.{Frame}
-use Rattle.lower_stmt.specs.Bodies.{all_bytes, all_values, spots_from, values_of}
+use Rattle.lower_stmt.specs.Bodies.{all_bytes, all_values, spots_from}
 use Rattle.expr_emitter.specs.declared.scope.Scope.{Scope}
 use Rattle.expr_emitter.specs.Scoped.{locals_in, program_in}
 use Rattle.stmt_emitter.specs.Standing.{IsPlaced, StmtFits}

@@ -1,5 +1,5 @@
 -- The code that locals become 0 by, or values of a statement's expressions.
-use Rattle.std.specs.Prelude.{ℕ, ◌+◌, Bool, List, option_copied, Option, Some, None, slice_get, slice_index_or}
+use Rattle.std.specs.Prelude.{ℕ, Bool, List, Option, slice_get, slice_index_or}
 use Rattle.mid_code.specs.declared.instr.Mid.{Mid}
 use Rattle.nesc_core.specs.Plain.{Ty, void, Expr, Exprs}
 use Rattle.lower_stmt.specs.Code.{clear_code, clears_code, enter_code, here_gives, kept_code, result_code, returned_code, step_code, Ways}

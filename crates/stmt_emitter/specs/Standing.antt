@@ -1,5 +1,5 @@
 -- Where statements stand, as plain data, and the code that they have there.
-use Rattle.std.specs.Prelude.{⊤, ℕ, zero, suc, ◌≡◌, ◌+◌, ◌-◌, ◌*◌, ◌<◌, ◌≤◌, List, [], ◌∷◌, Option, Some, None, option_copied, slice_get, slice_index_or}
+use Rattle.std.specs.Prelude.{⊤, ℕ, ◌≡◌, ◌+◌, ◌≤◌, List, Option, Some, None, option_copied, slice_get, slice_index_or}
 use Rattle.mid_code.specs.declared.instr.Mid.{Mid}
 use Rattle.nesc_core.specs.Plain.{Ty, void, Expr, Stmt, Stmts, no_stmts, more_stmts, Program}
 use Rattle.nesc_core.specs.Plain as plain
@@ -7,8 +7,7 @@ use Rattle.nesc_core.specs.PlaceTypes.{type_in}
 use Rattle.nesc_core.specs.Size.{IsSized}
 use Rattle.nesc_core.specs.WellFormed.{count_exprs, count_stmts}
 use Rattle.core_meaning.specs.Layout.{size_of}
-use Rattle.lower_expr.specs.declared.spot.Spot.{Spot}
-use Rattle.lower_expr.specs.declared.spot.Spot.TheVariants.{Values, Frame}
+use Rattle.lower_expr.specs.declared.spot.Spot.TheVariants.{Frame}
 use Rattle.lower_stmt.specs.Code as code
 use Rattle.lower_stmt.specs.Code.{stmt_code, stmts_code, switch_code}
 use Rattle.expr_emitter.specs.declared.scope.Scope.{Scope}

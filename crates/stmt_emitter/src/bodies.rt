@@ -12,11 +12,12 @@ ghost use Rattle.stmt_emitter.specs.Standing.{IsPlaced, StmtFits, ways_seen};
 ghost use Rattle.stmt_emitter.specs.Wholes.{ways_from, whole_in};
 
 use crate::levels::{stmt_atomics, stmt_levels};
-use crate::put::{put, put_nothing};
+use crate::put::put_nothing;
 use crate::spots::{Spots, params_of, spots_of};
 use crate::statements::emit_stmt;
 use crate::ways::{Ways, taken_at};
 use expr_emitter::Scope;
+use expr_emitter::put::put;
 use mid_code::{Mid, MidFn};
 use nesc_core::{Body, CoreStmt, CoreType, Program};
 use nm_base::{List, NoMemory};

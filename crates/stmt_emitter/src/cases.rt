@@ -9,8 +9,10 @@ ghost use Rattle.lower_stmt.specs.Code as spec;
 ghost use Rattle.nesc_core.specs.View.{case_of};
 ghost use Rattle.stmt_emitter.specs.Starts.{IsBelow, StartBelow};
 
-use crate::numbers::is_wide;
-use crate::put::{put, put_const, put_same};
+use crate::put::put_same;
+use expr_emitter::conversions::put_const;
+use expr_emitter::numbers::is_wide;
+use expr_emitter::put::put;
 use mid_code::Mid;
 use nm_base::{IntType, NoMemory, wrap};
 

@@ -8,8 +8,8 @@ ghost use Rattle.nesc_core.specs.Derefs.{expr_derefs, exprs_derefs, maybe_derefs
 ghost use Rattle.nesc_core.specs.Parts as parts;
 ghost use Rattle.nesc_core.specs.View.{expr_of, exprs_of, maybe_expr_of, place_of, program_of, stmt_of, stmts_of, type_of};
 
-use nesc_core::{CoreExpr, CoreStmt, CoreType, Place, Program};
-use nm_base::{IntType, List, NoMemory};
+use nesc_core::{CoreExpr, CoreStmt, CoreType, Place, Program, is_same_type};
+use nm_base::{List, NoMemory};
 use std::alloc::Global;
 
 #[cycle(copies)]
@@ -32,45 +32,12 @@ fn copied_boxed(alloc: Global, t: &Box<CoreType>) -> Result<Box<CoreType>, NoMem
     Ok(Box::new(alloc, copied(alloc, t)?)?)
 }
 
-fn same_int(t: IntType, u: IntType) -> bool
-    ensures { result ≡ parts.same_int t u }
-{
-    t == u
-}
-
-fn same_type(t: &CoreType, u: &CoreType) -> bool
-    ensures { result ≡ parts.same_type (type_of t.now) (type_of u.now) }
-{
-    match t {
-        CoreType::Void => matches!(u, CoreType::Void),
-        CoreType::Int(int) => match u {
-            CoreType::Int(other) => same_int(*int, *other),
-            CoreType::Void | CoreType::Pointer(_) | CoreType::Array(_, _) | CoreType::Struct(_) =>
-                false,
-        },
-        CoreType::Pointer(to) => match u {
-            CoreType::Pointer(other) => same_type(to, other),
-            CoreType::Void | CoreType::Int(_) | CoreType::Array(_, _) | CoreType::Struct(_) =>
-                false,
-        },
-        CoreType::Array(element, count) => match u {
-            CoreType::Array(other, len) => *count == *len && same_type(element, other),
-            CoreType::Void | CoreType::Int(_) | CoreType::Pointer(_) | CoreType::Struct(_) => false,
-        },
-        CoreType::Struct(k) => match u {
-            CoreType::Struct(other) => *k == *other,
-            CoreType::Void | CoreType::Int(_) | CoreType::Pointer(_) | CoreType::Array(_, _) =>
-                false,
-        },
-    }
-}
-
 fn is_seen(seen: &[CoreType], t: &CoreType) -> bool
     ensures { result ≡ list_any (λ u. parts.same_type u (type_of t.now)) (map type_of seen.now) }
 {
     let mut rest = seen;
     while let [first, others @ ..] = rest {
-        if same_type(first, t) {
+        if is_same_type(first, t) {
             return true;
         }
         rest = others;

@@ -9,12 +9,10 @@ mod leads;
 mod levels;
 mod locals;
 mod lowering;
-mod numbers;
 mod put;
 mod spots;
 mod statements;
 mod turns;
-mod types;
 mod ways;
 
 pub use lowering::lower;

@@ -15,9 +15,9 @@ ghost use Rattle.nesc_core.specs.Weights.{expr_levels, greatest_levels};
 ghost use Rattle.stmt_emitter.specs.Located.{clear_in, clears_in, enter_in, gives_in, kept_in, result_in};
 ghost use Rattle.stmt_emitter.specs.Standing.{IsPlaced};
 
-use crate::numbers::is_wide;
-use crate::put::put;
-use crate::types::{is_void, number_of, size_of};
+use expr_emitter::numbers::is_wide;
+use expr_emitter::put::put;
+use expr_emitter::types::{is_void, number_of, size_of};
 use expr_emitter::{Scope, emit_expr};
 use lower_expr::{Regs, Spot};
 use mid_code::{Mid, Op, Test};

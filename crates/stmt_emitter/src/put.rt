@@ -1,24 +1,16 @@
 //! Instructions one behind the other.
 
 ghost use Rattle.std.specs.Prelude.{◌≡◌, ◌∷◌, [], ◌++◌, ◌+◌, ◌<◌, ◌^◌, OnOk, pos};
-ghost use Rattle.lower_expr.specs.Pieces.{const_code, zero_code};
 ghost use Rattle.lower_stmt.specs.Code.{nothing_code, same_code};
 ghost use Rattle.nesc_core.specs.PlaceTypes.{type_in};
 ghost use Rattle.std.specs.Prelude.{option_copied};
 
-use crate::numbers::{high, is_wide, low};
-use crate::types::{is_void, number_of};
+use expr_emitter::conversions::put_const;
+use expr_emitter::put::put;
+use expr_emitter::types::{is_void, number_of};
 use mid_code::{Mid, Op, Test};
 use nesc_core::CoreType;
-use nm_base::{IntType, NoMemory};
-
-/// One more instruction.
-pub(crate) fn put(code: &mut Vec<Mid>, instr: Mid) -> Result<(), NoMemory>
-    ensures { OnOk result (code.new.items ≡ code.old.items ++ instr ∷ []) }
-{
-    code.push(instr)?;
-    Ok(())
-}
+use nm_base::NoMemory;
 
 /// More code.
 pub(crate) fn put_all(code: &mut Vec<Mid>, mut more: Vec<Mid>) -> Result<(), NoMemory>
@@ -26,19 +18,6 @@ pub(crate) fn put_all(code: &mut Vec<Mid>, mut more: Vec<Mid>) -> Result<(), NoM
 {
     code.append(&mut more)?;
     Ok(())
-}
-
-/// A number to `r`.
-pub(crate) fn put_const(code: &mut Vec<Mid>, t: IntType, x: i64, r: u32) -> Result<(), NoMemory>
-    requires { r + 1 < 2 ^ 32 }
-    ensures { OnOk result (code.new.items ≡ code.old.items ++ const_code t x r) }
-{
-    if is_wide(t) {
-        put(code, Mid::Set(r, low(x)))?;
-        put(code, Mid::Set(r + 1, high(x)))
-    } else {
-        put(code, Mid::Set(r, low(x)))
-    }
 }
 
 /// 0 of a type to `r`.
@@ -50,27 +29,6 @@ pub(crate) fn put_nothing(code: &mut Vec<Mid>, t: Option<&CoreType>, r: u32) -> 
         Ok(())
     } else {
         put_const(code, number_of(t), 0, r)
-    }
-}
-
-/// A number at `r` compared with 0, which goes to the label.
-pub(crate) fn put_zero(
-    code: &mut Vec<Mid>,
-    test: Test,
-    wide: bool,
-    r: u32,
-    l: u32,
-) -> Result<(), NoMemory>
-    requires { r + 2 < 2 ^ 32 }
-    ensures { OnOk result (code.new.items ≡ code.old.items ++ zero_code test wide r l) }
-{
-    if wide {
-        put(code, Mid::Bin(Op::Or, r, r, r + 1))?;
-        put(code, Mid::Set(r + 2, 0))?;
-        put(code, Mid::Branch(test, r, r + 2, l))
-    } else {
-        put(code, Mid::Set(r + 2, 0))?;
-        put(code, Mid::Branch(test, r, r + 2, l))
     }
 }
 

@@ -11,8 +11,8 @@ ghost use Rattle.nesc_core.specs.View.{program_of, structs_of, type_of};
 ghost use Rattle.nesc_core.specs.Weights as weights;
 ghost use Rattle.stmt_emitter.specs.Starts.{AreAllSized};
 
-use crate::numbers::is_wide;
-use crate::types::number_of;
+use expr_emitter::numbers::is_wide;
+use expr_emitter::types::number_of;
 use lower_expr::{Regs, Spot};
 use nesc_core::{CoreType, Program, Structs};
 use nm_base::NoMemory;

@@ -18,10 +18,12 @@ ghost use Rattle.stmt_emitter.specs.Standing.{AllFit, IsPlaced, MaybeHasSizes, S
 use crate::cases::put_cases;
 use crate::given::gives_value;
 use crate::locals::{emit_enter, given_type, put_clear, put_clears, put_result};
-use crate::numbers::is_wide;
-use crate::put::{put, put_all, put_nothing, put_zero};
+use crate::put::{put_all, put_nothing};
 use crate::turns::{Turn, begin_turn, emit_turn, end_turn};
 use crate::ways::{WayOut, Ways, in_atomic, in_here, in_loop, in_switch, put_exits, put_way_out};
+use expr_emitter::conversions::put_zero;
+use expr_emitter::numbers::is_wide;
+use expr_emitter::put::put;
 use expr_emitter::{Scope, emit_expr};
 use mid_code::{Mid, Test};
 use nesc_core::{CoreExpr, CoreStmt, CoreType};

@@ -11,7 +11,8 @@ ghost use Rattle.nesc_core.specs.Weights.{expr_levels, maybe_levels};
 ghost use Rattle.stmt_emitter.specs.Located.{step_in};
 ghost use Rattle.stmt_emitter.specs.Standing.{IsPlaced, MaybeHasSizes};
 
-use crate::put::{put, put_all};
+use crate::put::put_all;
+use expr_emitter::put::put;
 use expr_emitter::{Scope, emit_expr};
 use mid_code::Mid;
 use nesc_core::CoreExpr;

@@ -9,9 +9,9 @@ ghost use Rattle.nesc_core.specs.View.{stmt_of};
 ghost use Rattle.stmt_emitter.specs.Standing.{out_seen, ways_seen};
 
 use crate::leads::leads;
-use crate::numbers::is_wide;
-use crate::put::put;
-use crate::types::{is_void, number_of};
+use expr_emitter::numbers::is_wide;
+use expr_emitter::put::put;
+use expr_emitter::types::{is_void, number_of};
 use mid_code::Mid;
 use nesc_core::{CoreStmt, CoreType};
 use nm_base::{List, NoMemory};

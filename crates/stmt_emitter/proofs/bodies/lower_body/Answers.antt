@@ -1,4 +1,4 @@
-use Rattle.std.proofs.Common.{◌≡◌, ◌+◌, ◌<◌, ◌≤◌, ◌^◌, List, All, map, ap, ◌∙◌, sym, subst, arith}
+use Rattle.std.proofs.Common.{◌≤◌, List, All, map, ap, ◌∙◌, sym, subst, arith}
 use Rattle.nesc_core.specs.declared.tree.CoreType.{CoreType}
 use Rattle.nesc_core.specs.Typing.{IsType}
 use Rattle.nesc_core.specs.View.{body_of, program_of, stmt_of, type_of}

@@ -1,4 +1,4 @@
-use Rattle.std.proofs.Common.{◌≡◌, ◌+◌, ◌*◌, ◌<◌, ◌≤◌, ◌++◌, ◌^◌, drop}
+use Rattle.std.proofs.Common.{◌≡◌, ◌+◌, ◌*◌, ◌<◌, ◌++◌, ◌^◌, drop}
 use Rattle.nesc_core.specs.View.{exprs_of}
 use Rattle.nesc_core.specs.Weights.{greatest_levels}
 use Rattle.lower_expr.specs.Code.{all_labels}

@@ -1,4 +1,4 @@
-use Rattle.std.proofs.Common.{◌≡◌, ◌++◌, [], ◌∷◌, List, All, map, take, ap, ◌∙◌, sym, subst}
+use Rattle.std.proofs.Common.{◌++◌, [], ◌∷◌, List, All, map, take, ap, ◌∙◌, sym, subst}
 use Rattle.nesc_core.specs.Plain.{Ty, pointer}
 use Rattle.nesc_core.specs.Typing.{PointsWell}
 use Rattle.nesc_core.specs.View.{program_of, type_of}

@@ -1,5 +1,4 @@
-use Rattle.std.proofs.Common.{◌≡◌, ◌<◌, ◌^◌, List, All, length, map, sym, subst}
-use Rattle.std.proofs.Math.ListN as list
+use Rattle.std.proofs.Common.{◌<◌, ◌^◌, List, All, map, sym, subst}
 use Rattle.nesc_core.specs.declared.tree.Body as tree_body
 use Rattle.nesc_core.specs.Plain.{Body}
 use Rattle.nesc_core.specs.View.{body_of, program_of}

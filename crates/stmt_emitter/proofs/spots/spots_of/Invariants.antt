@@ -1,4 +1,4 @@
-use Rattle.std.proofs.Common.{◌≡◌, ◌+◌, ◌<◌, ◌≤◌, ◌^◌, ◌++◌, length, map}
+use Rattle.std.proofs.Common.{◌≡◌, ◌+◌, ◌++◌, length, map}
 use Rattle.nesc_core.specs.View.{program_of, type_of}
 use Rattle.lower_stmt.specs.Bodies.{all_bytes, all_values, spots_from}
 use Rattle.stmt_emitter.specs.Starts.{AreAllSized}

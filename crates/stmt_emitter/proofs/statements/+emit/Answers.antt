@@ -1,4 +1,4 @@
-use Rattle.std.proofs.Common.{◌≡◌, ◌+◌, ◌*◌, ◌<◌, ◌≤◌, ◌^◌, List, OnOk, subst, arith, rules}
+use Rattle.std.proofs.Common.{◌≡◌, ◌+◌, ◌*◌, ◌<◌, ◌≤◌, ◌^◌, List, OnOk, subst, rules}
 use Rattle.mid_code.specs.declared.instr.Mid.{Mid}
 use Rattle.nesc_core.specs.Plain.{Stmt}
 use Rattle.nesc_core.specs.View.{exprs_of, stmt_of}
