@@ -2,15 +2,16 @@
 
 ghost use Rattle.std.specs.Prelude.{◌≡◌, ◌++◌, ◌∷◌, [], IfOk, OnOk, map};
 ghost use Rattle.lower_expr.specs.Code as expressions;
+ghost use Rattle.lower_form.specs.Short.{IsShort};
 ghost use Rattle.lower_stmt.specs.Bodies as bodies;
 ghost use Rattle.lower_stmt.specs.Bodies.{lowered};
+ghost use Rattle.mid_code.specs.Form.{IsMidCode};
 ghost use Rattle.nesc_core.specs.Parts.{run_of};
 ghost use Rattle.nesc_core.specs.Plain.{pointer};
 ghost use Rattle.nesc_core.specs.Size.{AreSized, IsSized, layout_of};
 ghost use Rattle.nesc_core.specs.Typing.{PointsWell};
 ghost use Rattle.nesc_core.specs.View.{program_of, structs_of, type_of};
 ghost use Rattle.nesc_core.specs.WellFormed.{IsWellFormed};
-ghost use Rattle.stmt_emitter.specs.Programs.{IsNumbered};
 
 use crate::bodies::lower_body;
 use crate::checks::checks_of;
@@ -64,12 +65,11 @@ fn checks_for(alloc: Global, p: &Program, types: &[CoreType]) -> Result<Vec<Chec
     Ok(checks)
 }
 
-/// A program lowered: function k is body k, and the checks are those of the types that bodies dereference, in the order of their
-/// first dereference.
-pub fn lower(alloc: Global, p: &Program) -> Result<MidCode, NoMemory>
+// The code of a program, as its definition gives it.
+fn lowered_code(alloc: Global, p: &Program) -> Result<MidCode, NoMemory>
     requires program { IsWellFormed (program_of p.now) }
-    requires numbered { IsNumbered (program_of p.now) }
-    ensures code { IfOk result (λ c. c ≡ lowered (program_of p.now)) }
+    requires short { IsShort (program_of p.now) }
+    ensures { IfOk result (λ c. c ≡ lowered (program_of p.now)) }
 {
     let types = checks_of(alloc, p)?;
     let mut fns = Vec::new(alloc);
@@ -81,4 +81,16 @@ pub fn lower(alloc: Global, p: &Program) -> Result<MidCode, NoMemory>
         fns: List::new(fns),
         checks: List::new(checks),
     })
+}
+
+/// A program lowered: function k is body k, and the checks are those of the types that bodies dereference, in the order of their
+/// first dereference. `is_short` of lower_form tells whether a program is short.
+pub fn lower(alloc: Global, p: &Program) -> Result<MidCode, NoMemory>
+    requires program { IsWellFormed (program_of p.now) }
+    requires short { IsShort (program_of p.now) }
+    ensures code { IfOk result (λ c. c ≡ lowered (program_of p.now)) }
+    ensures form { IfOk result IsMidCode }
+{
+    let code = lowered_code(alloc, p)?;
+    Ok(code)
 }

@@ -1,22 +1,8 @@
-use Rattle.std.proofs.Common.{◌<◌, ◌^◌, List, All, map, sym, subst}
-use Rattle.nesc_core.specs.declared.tree.Body as tree_body
-use Rattle.nesc_core.specs.Plain.{Body}
-use Rattle.nesc_core.specs.View.{body_of, program_of}
-use Rattle.nesc_core.specs.WellFormed.{IsBody}
-use Rattle.lower_stmt.specs.Code.{stmt_labels}
-use Rattle.stmt_emitter.proofs.Items.{body_item}
+use Rattle.std.proofs.Common.{sym, subst}
+use Rattle.nesc_core.specs.View.{program_of}
+use Rattle.mid_code.specs.Form.{IsMidCode}
+use Rattle.lower_form.proofs.Form.{keeps_form}
 use Rattle.stmt_emitter.proofs.lowering.lower.Goals as goal
 
-pub lower_body-requires-clause-body : goal.lower_body-requires-clause-body
-lower_body-requires-clause-body c =
-    let p = program_of c.args.p.now in
-    let all : All (IsBody p) (map body_of c.as_slice-body-items.result.now) =
-    subst (λ (bs : List tree_body.Body). All (IsBody p) (map body_of bs)) (sym c.as_slice-body-items.ensures) c.requires.program.bodies in
-    body_item (IsBody p) c.as_slice-body-items.result.now c.loop-body.body-index c.body-item.result all c.loop-body-test.true c.body-item.is
-
-pub lower_body-requires-clause-labels : goal.lower_body-requires-clause-labels
-lower_body-requires-clause-labels c =
-    let few = λ (b : Body). stmt_labels b.code < 2 ^ 32 in
-    let all : All few (map body_of c.as_slice-body-items.result.now) =
-    subst (λ (bs : List tree_body.Body). All few (map body_of bs)) (sym c.as_slice-body-items.ensures) c.requires.numbered.labels in
-    body_item few c.as_slice-body-items.result.now c.loop-body.body-index c.body-item.result all c.loop-body-test.true c.body-item.is
+pub returns-clause-form : goal.returns-clause-form
+returns-clause-form c = subst IsMidCode (sym c.in_ok-code.ensures) (keeps_form (program_of c.args.p.now) c.requires.program c.requires.short)

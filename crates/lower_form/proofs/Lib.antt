@@ -1,0 +1,10 @@
+pub mod Quiet
+pub mod Helps
+pub mod Fits
+pub mod Lengths
+pub mod Counted
+pub mod Form
+pub mod Extras
+pub mod PlainCode
+pub mod Instructions
+pub mod Sound
