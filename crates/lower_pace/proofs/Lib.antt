@@ -1,0 +1,10 @@
+pub mod Silent
+pub mod Flow
+pub mod Pieces
+pub mod Exprs
+pub mod Clears
+pub mod Ways
+pub mod Stmts
+pub mod Reached
+pub mod Bodies
+pub mod Weighed
