@@ -2,7 +2,7 @@
 use Rattle.std.proofs.Common.{◌≡◌, ℕ, zero, suc, ◌+◌, ◌*◌, ◌≤◌, Bool, true, false, List, [], ◌∷◌, ◌++◌, length, drop, Option, Some, None, refl, sym, ap, ◌∙◌, subst, add-one, append_assoc, arith}
 use Rattle.std.specs.Prelude.{⊤, map, slice_get, ◌&&◌, if◌then◌else◌}
 use Rattle.mid_code.specs.declared.instr.Mid.{Mid}
-use Rattle.mid_code.specs.declared.instr.Mid.TheVariants.{Set, Move, Bin, Carry, Load, Store, Peek, Poke, In, Out, Label, Jump, Branch, Call, Help, Ret, Begin, End, Post, Tick, Fault}
+use Rattle.mid_code.specs.declared.instr.Mid.TheVariants.{Set, Move, Bin, Carry, Load, Store, Peek, Poke, In, Out, Label, Jump, Branch, Call, Help, Ret, Begin, End, Post, Tick}
 use Rattle.mid_code.specs.declared.instr.Test.{Test}
 use Rattle.mid_code.specs.declared.code.MidCode.{MidCode}
 use Rattle.mid_code.specs.Help.{helped}
@@ -220,20 +220,12 @@ module _ (given : Setting) where
     plain_soon (Peek w v x) ok is h le = by_step (Peek w v x) _ is (does code f rest at values frame _ is) (h refl _ _) le
     plain_soon (Poke w v x) ok is h le = by_step (Poke w v x) _ is (does code f rest at values frame _ is) (h refl _ _) le
     plain_soon (Label l) ok is h le = by_step (Label l) _ is (does code f rest at values frame _ is) (h refl _ _) le
-    plain_soon (Load w v x) ok is h le = by_act (Load w v x) is (λ count. ap (λ x. if_silent x count) (does code f rest at values frame _ is)) le
-    plain_soon (Store w v x) ok is h le = by_act (Store w v x) is (λ count. ap (λ x. if_silent x count) (does code f rest at values frame _ is)) le
-    plain_soon (In v port) ok is h le = by_act (In v port) is (λ count. ap (λ x. if_silent x count) (does code f rest at values frame _ is)) le
-    plain_soon (Out port v) ok is h le = by_act (Out port v) is (λ count. ap (λ x. if_silent x count) (does code f rest at values frame _ is)) le
-    plain_soon (Begin o) ok is h le = by_act (Begin o) is (λ count. ap (λ x. if_silent x count) (does code f rest at values frame _ is)) le
-    plain_soon (End o) ok is h le = by_act (End o) is (λ count. ap (λ x. if_silent x count) (does code f rest at values frame _ is)) le
-    plain_soon (Post k v) ok is h le = by_act (Post k v) is (λ count. ap (λ x. if_silent x count) (does code f rest at values frame _ is)) le
-    plain_soon Tick ok is h le = by_act Tick is (λ count. ap (λ x. if_silent x count) (does code f rest at values frame _ is)) le
-    plain_soon (Fault c) ok is h le = by_act (Fault c) is (λ count. ap (λ x. if_silent x count) (does code f rest at values frame _ is)) le
     plain_soon (Jump l) ok is h le = absurd (cc)
     plain_soon (Branch test x y l) ok is h le = absurd (cc)
     plain_soon (Call g ins outs) ok is h le = absurd (cc)
     plain_soon (Help g ins outs) ok is h le = absurd (cc)
     plain_soon (Ret vs) ok is h le = absurd (cc)
+    plain_soon i ok is h le = by_act i is (λ count. ap (λ x. if_silent x count) (does code f rest at values frame _ is)) le
 
     pub plain_act : (i : Mid) → is_plain i ≡ true → is_act i ≡ true → slice_get whole at ≡ Some i → n + size (Some i) + 1 ≤ m → Soon code size m s
     plain_act i ok act is le = plain_soon i ok is (λ e. absurd (cc)) le
@@ -293,26 +285,7 @@ module _ (given : Setting) where
     where
       no_call : (i : Mid) → is_plain i ≡ true → is_call i ≡ true → ⊥
       no_call (Call g ins outs) ok c = absurd (cc)
-      no_call (Set v x) ok c = absurd (cc)
-      no_call (Move v x) ok c = absurd (cc)
-      no_call (Bin op v x y) ok c = absurd (cc)
-      no_call (Carry op v x y) ok c = absurd (cc)
-      no_call (Load w v x) ok c = absurd (cc)
-      no_call (Store w v x) ok c = absurd (cc)
-      no_call (Peek w v x) ok c = absurd (cc)
-      no_call (Poke w v x) ok c = absurd (cc)
-      no_call (In v port) ok c = absurd (cc)
-      no_call (Out port v) ok c = absurd (cc)
-      no_call (Label l) ok c = absurd (cc)
-      no_call (Jump l) ok c = absurd (cc)
-      no_call (Branch test x y l) ok c = absurd (cc)
-      no_call (Help g ins outs) ok c = absurd (cc)
-      no_call (Ret vs) ok c = absurd (cc)
-      no_call (Begin o) ok c = absurd (cc)
-      no_call (End o) ok c = absurd (cc)
-      no_call (Post k v) ok c = absurd (cc)
-      no_call Tick ok c = absurd (cc)
-      no_call (Fault k) ok c = absurd (cc)
+      no_call i ok c = absurd (cc)
 
   pub helps : (n m h : ℕ) (ins outs : List ℕ) (u : List Mid) → Flow n u → n + help + 1 ≤ m → Flow m (Help h ins outs ∷ u)
   helps n m h ins outs u fl le = record {
@@ -423,25 +396,7 @@ module _ (given : Setting) where
       small : (i : Mid) → is_plain i ≡ true → is_small i ≡ true
       small (Call g ins outs) ok = absurd (cc)
       small (Help g ins outs) ok = absurd (cc)
-      small (Set v x) ok = refl
-      small (Move v x) ok = refl
-      small (Bin op v x y) ok = refl
-      small (Carry op v x y) ok = refl
-      small (Load w v x) ok = refl
-      small (Store w v x) ok = refl
-      small (Peek w v x) ok = refl
-      small (Poke w v x) ok = refl
-      small (In v port) ok = refl
-      small (Out port v) ok = refl
-      small (Label l) ok = refl
-      small (Jump l) ok = refl
-      small (Branch test x y l) ok = refl
-      small (Ret vs) ok = refl
-      small (Begin o) ok = refl
-      small (End o) ok = refl
-      small (Post k v) ok = refl
-      small Tick ok = refl
-      small (Fault k) ok = refl
+      small i ok = refl
 
   go : (n m : ℕ) (c u : List Mid) → all_plain c ≡ true → Flow given n u → n + 9 * length c ≤ m → Flow given m (c ++ u)
   go n m [] u ok h le = flow_more given n m u (omega (arith, le)) h

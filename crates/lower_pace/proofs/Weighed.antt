@@ -12,7 +12,7 @@ use Rattle.nesc_core.specs.Weights.{local_bytes, pace_of_program}
 use Rattle.nesc_core.specs.WellFormed.{IsBody, IsWellFormed}
 use Rattle.core_meaning.specs.Layout.{size_of}
 use Rattle.mid_code.specs.declared.instr.Mid.{Mid}
-use Rattle.mid_code.specs.declared.instr.Mid.TheVariants.{Set, Move, Bin, Carry, Load, Store, Peek, Poke, In, Out, Label, Jump, Branch, Call, Help, Ret, Begin, End, Post, Tick, Fault}
+use Rattle.mid_code.specs.declared.instr.Mid.TheVariants.{Set, Bin, Poke, Label, Jump, Branch, Call, Help, Tick}
 use Rattle.mid_code.specs.declared.code.MidFn.{MidFn}
 use Rattle.mid_code.specs.Machine.{Activation, fn_of, no_fn}
 use Rattle.mid_code.specs.Reached.{state_at}
@@ -46,66 +46,16 @@ light_sizes p own most_help (Label l) ok = omega arith
 light_sizes p own most_help (Jump l) ok = omega arith
 light_sizes p own most_help (Branch test x y l) ok = omega arith
 light_sizes p own most_help Tick ok = omega arith
-light_sizes p own most_help (Move v x) ok = absurd (cc)
-light_sizes p own most_help (Carry op v x y) ok = absurd (cc)
-light_sizes p own most_help (Load w v x) ok = absurd (cc)
-light_sizes p own most_help (Store w v x) ok = absurd (cc)
-light_sizes p own most_help (Peek w v x) ok = absurd (cc)
-light_sizes p own most_help (In v port) ok = absurd (cc)
-light_sizes p own most_help (Out port v) ok = absurd (cc)
-light_sizes p own most_help (Call g ins outs) ok = absurd (cc)
-light_sizes p own most_help (Help h ins outs) ok = absurd (cc)
-light_sizes p own most_help (Ret vs) ok = absurd (cc)
-light_sizes p own most_help (Begin o) ok = absurd (cc)
-light_sizes p own most_help (End o) ok = absurd (cc)
-light_sizes p own most_help (Post k v) ok = absurd (cc)
-light_sizes p own most_help (Fault c) ok = absurd (cc)
+light_sizes p own most_help i ok = absurd (cc)
 
 small_sizes : (p : Program) (own : ℕ → ℕ) (most_help : ℕ) (i : Mid) → is_small i ≡ true → weight.size_of (lowered p) own most_help (Some i) ≤ 8
-small_sizes p own most_help (Set v n) ok = omega arith
-small_sizes p own most_help (Move v x) ok = omega arith
-small_sizes p own most_help (Bin op v x y) ok = omega arith
-small_sizes p own most_help (Carry op v x y) ok = omega arith
-small_sizes p own most_help (Load w v x) ok = omega arith
-small_sizes p own most_help (Store w v x) ok = omega arith
-small_sizes p own most_help (Peek w v x) ok = omega arith
-small_sizes p own most_help (Poke w v x) ok = omega arith
-small_sizes p own most_help (In v port) ok = omega arith
-small_sizes p own most_help (Out port v) ok = omega arith
-small_sizes p own most_help (Label l) ok = omega arith
-small_sizes p own most_help (Jump l) ok = omega arith
-small_sizes p own most_help (Branch test x y l) ok = omega arith
 small_sizes p own most_help (Call g ins outs) ok = absurd (cc)
 small_sizes p own most_help (Help h ins outs) ok = absurd (cc)
-small_sizes p own most_help (Ret vs) ok = omega arith
-small_sizes p own most_help (Begin o) ok = omega arith
-small_sizes p own most_help (End o) ok = omega arith
-small_sizes p own most_help (Post k v) ok = omega arith
-small_sizes p own most_help Tick ok = omega arith
-small_sizes p own most_help (Fault c) ok = omega arith
+small_sizes p own most_help i ok = omega arith
 
 help_sizes : (p : Program) (own : ℕ → ℕ) (most_help : ℕ) (i : Mid) → is_help i ≡ true → weight.size_of (lowered p) own most_help (Some i) ≤ most_help + 8
 help_sizes p own most_help (Help h ins outs) ok = omega arith
-help_sizes p own most_help (Set v n) ok = absurd (cc)
-help_sizes p own most_help (Move v x) ok = absurd (cc)
-help_sizes p own most_help (Bin op v x y) ok = absurd (cc)
-help_sizes p own most_help (Carry op v x y) ok = absurd (cc)
-help_sizes p own most_help (Load w v x) ok = absurd (cc)
-help_sizes p own most_help (Store w v x) ok = absurd (cc)
-help_sizes p own most_help (Peek w v x) ok = absurd (cc)
-help_sizes p own most_help (Poke w v x) ok = absurd (cc)
-help_sizes p own most_help (In v port) ok = absurd (cc)
-help_sizes p own most_help (Out port v) ok = absurd (cc)
-help_sizes p own most_help (Label l) ok = absurd (cc)
-help_sizes p own most_help (Jump l) ok = absurd (cc)
-help_sizes p own most_help (Branch test x y l) ok = absurd (cc)
-help_sizes p own most_help (Call g ins outs) ok = absurd (cc)
-help_sizes p own most_help (Ret vs) ok = absurd (cc)
-help_sizes p own most_help (Begin o) ok = absurd (cc)
-help_sizes p own most_help (End o) ok = absurd (cc)
-help_sizes p own most_help (Post k v) ok = absurd (cc)
-help_sizes p own most_help Tick ok = absurd (cc)
-help_sizes p own most_help (Fault c) ok = absurd (cc)
+help_sizes p own most_help i ok = absurd (cc)
 
 -- ---- products
 
@@ -201,26 +151,7 @@ module _ (p : Program) (well : IsWellFormed p) (measured : IsMeasured p) where
 
     calls_of : (i : Mid) → is_call i ≡ true → weight.size_of (lowered p) (own_of p) most_help (Some i) ≤ 30000
     calls_of (Call g ins outs) ok = let frame = frame_of g in let small = entry_small g in omega (arith, frame, small)
-    calls_of (Set v n) ok = absurd (cc)
-    calls_of (Move v x) ok = absurd (cc)
-    calls_of (Bin op v x y) ok = absurd (cc)
-    calls_of (Carry op v x y) ok = absurd (cc)
-    calls_of (Load w v x) ok = absurd (cc)
-    calls_of (Store w v x) ok = absurd (cc)
-    calls_of (Peek w v x) ok = absurd (cc)
-    calls_of (Poke w v x) ok = absurd (cc)
-    calls_of (In v port) ok = absurd (cc)
-    calls_of (Out port v) ok = absurd (cc)
-    calls_of (Label l) ok = absurd (cc)
-    calls_of (Jump l) ok = absurd (cc)
-    calls_of (Branch test x y l) ok = absurd (cc)
-    calls_of (Help h ins outs) ok = absurd (cc)
-    calls_of (Ret vs) ok = absurd (cc)
-    calls_of (Begin o) ok = absurd (cc)
-    calls_of (End o) ok = absurd (cc)
-    calls_of (Post k v) ok = absurd (cc)
-    calls_of Tick ok = absurd (cc)
-    calls_of (Fault c) ok = absurd (cc)
+    calls_of i ok = absurd (cc)
 
     abbrev size : Option Mid → ℕ
     size = weight.size_of (lowered p) (own_of p) most_help
