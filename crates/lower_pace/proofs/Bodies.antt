@@ -19,7 +19,7 @@ use Rattle.lower_stmt.specs.Code.{WayOut, breaking, continuing, returning, leads
 use Rattle.lower_stmt.specs.Bodies.{all_bytes, base_of, body_code, bytes_in_frame, spots_from, spots_of, values_of, ways_of}
 use Rattle.lower_stmt.proofs.Leaving.{leads_allowed}
 use Rattle.lower_stmt.proofs.Weighed.{is_within}
-use Rattle.lower_pace.specs.Pace.{HasFewCases}
+use Rattle.lower_pace.specs.Pace.{HasFewCases, TakesByte}
 use Rattle.lower_pace.proofs.Flow.{Flow, Setting, nothing, plains, returns}
 use Rattle.lower_pace.proofs.Exprs.{costs}
 use Rattle.lower_pace.proofs.Ways.{Sized, WayLeads, nothing_plain, sizes_from}
@@ -36,10 +36,10 @@ frame_small p (array t n ∷ ts) v o zero at lt e = let same : o ≡ at = cc in 
 frame_small p (struct k ∷ ts) v o zero at lt e = let same : o ≡ at = cc in omega (arith, same)
 frame_small p (t ∷ ts) v o (suc x) at lt e = let h = frame_small p ts (v + values_of t) (o + bytes_in_frame p t) x at (omega (arith, lt)) e in omega (arith, h)
 
-some_bytes : (p : Program) (ts : List Ty) (x : ℕ) → All (λ t. 1 ≤ size_of p t) ts → x < length ts → 1 ≤ size_of p (slice_index_or ts x void)
+some_bytes : (p : Program) (ts : List Ty) (x : ℕ) → All (TakesByte p) ts → x < length ts → 1 ≤ size_of p (slice_index_or ts x void)
 some_bytes p [] x h lt = absurd (omega (arith, lt))
-some_bytes p (t ∷ ts) zero h lt = All-head (λ t. 1 ≤ size_of p t) t ts h
-some_bytes p (t ∷ ts) (suc x) h lt = some_bytes p ts x (All-tail (λ t. 1 ≤ size_of p t) t ts h) (omega (arith, lt))
+some_bytes p (t ∷ ts) zero h lt = All-head (TakesByte p) t ts h
+some_bytes p (t ∷ ts) (suc x) h lt = some_bytes p ts x (All-tail (TakesByte p) t ts h) (omega (arith, lt))
 
 shifted : (p : Program) (t : Ty) (ts : List Ty) (count x : ℕ) → sizes_from p (t ∷ ts) count (suc x) ≡ sizes_from p ts count x
 shifted p t ts zero x = refl
@@ -105,7 +105,7 @@ all_at P [] f b h e = absurd (cc)
 all_at P (a ∷ bs) zero b h e = let same : a ≡ b = cc in subst P same (All-head P a bs h)
 all_at P (a ∷ bs) (suc f) b h e = all_at P bs f b (All-tail P a bs h) e
 
-pub body_flows : (given : Setting) (p : Program) (checks : List Ty) (b : Body) (bytes big : ℕ) → (fn_of given.code given.f).code ≡ body_code p checks b → IsBody p b → HasFewCases b.code → All (λ t. 1 ≤ size_of p t) b.locals →
+pub body_flows : (given : Setting) (p : Program) (checks : List Ty) (b : Body) (bytes big : ℕ) → (fn_of given.code given.f).code ≡ body_code p checks b → IsBody p b → HasFewCases b.code → All (TakesByte p) b.locals →
     local_bytes_in p b ≤ bytes → given.help + 1200 + 48 * bytes ≤ big → Flow given (50 + costs big (stmt_nodes_of b.code)) (fn_of given.code given.f).code
 body_flows given p checks b bytes big is well few some within enough =
     let base = base_of b in

@@ -209,10 +209,10 @@ module _ (given : Setting) where
     by_act : (i : Mid) → slice_get whole at ≡ Some i → ((count : List Activation → ℕ) → if_silent (step code s) count ≡ 0) → n + size (Some i) + 1 ≤ m → Soon code size m s
     by_act i is none le = let own : size (slice_get whole at) ≡ size (Some i) = ap size is in acts code size m s none (omega (arith, own, le))
 
-    abbrev Next_soon : Type 0
-    Next_soon = (values frame : ℕ → ℕ) → SoonAt n rest (at + 1) values frame
+    abbrev NextSoon : Type 0
+    NextSoon = (values frame : ℕ → ℕ) → SoonAt n rest (at + 1) values frame
 
-    plain_soon : (i : Mid) → is_plain i ≡ true → slice_get whole at ≡ Some i → (is_act i ≡ false → Next_soon) → n + size (Some i) + 1 ≤ m → Soon code size m s
+    plain_soon : (i : Mid) → is_plain i ≡ true → slice_get whole at ≡ Some i → (is_act i ≡ false → NextSoon) → n + size (Some i) + 1 ≤ m → Soon code size m s
     plain_soon (Set v x) ok is h le = by_step (Set v x) _ is (does code f rest at values frame _ is) (h refl _ _) le
     plain_soon (Move v x) ok is h le = by_step (Move v x) _ is (does code f rest at values frame _ is) (h refl _ _) le
     plain_soon (Bin op v x y) ok is h le = by_step (Bin op v x y) _ is (does code f rest at values frame _ is) (h refl _ _) le
@@ -233,7 +233,7 @@ module _ (given : Setting) where
     abbrev here_is : Activation
     here_is = record { f = f; at = at; values = values; frame = frame }
 
-    help_soon : (h : ℕ) (ins outs : List ℕ) → slice_get whole at ≡ Some (Help h ins outs) → Next_soon → n + size (Some (Help h ins outs)) + 1 ≤ m → Soon code size m s
+    help_soon : (h : ℕ) (ins outs : List ℕ) → slice_get whole at ≡ Some (Help h ins outs) → NextSoon → n + size (Some (Help h ins outs)) + 1 ≤ m → Soon code size m s
     help_soon h ins outs is next le = by (helped code h (map values ins)) refl
       where
         by : (o : Option (List ℕ)) → helped code h (map values ins) ≡ o → Soon code size m s

@@ -55,8 +55,8 @@ module _ (code : MidCode) (size : Option Mid → ℕ) (help : ℕ) (sizes : HasS
       pub soon : Soon code size m s
       pub waits : Waits s
 
-    over_is : Fine []
-    over_is = record { soon = let none = sizes.none in acts code size m [] (λ count. refl) (omega (arith, none, enough)); waits = tt }
+    over_fine : Fine []
+    over_fine = record { soon = let none = sizes.none in acts code size m [] (λ count. refl) (omega (arith, none, enough)); waits = tt }
 
     -- at the beginning of a function
     begins : (g : ℕ) (values frame : ℕ → ℕ) (rest : List Activation) → AreCalled code rest → Soon code size n (record { f = g; at = 0; values = values; frame = frame } ∷ rest)
@@ -123,21 +123,18 @@ module _ (code : MidCode) (size : Option Mid → ℕ) (help : ℕ) (sizes : HasS
           subst (λ x. Fine (moved x answer)) (sym (performs (Some i) is)) (subst Fine (sym e) (record { soon = acted a rest i values frame is act fine.waits; waits = fine.waits }))
 
       ends_on : (o : Option Mid) → instruction code a ≡ o → moved (perform o code (fn_of code a.f) a rest) answer ≡ [] → Then
-      ends_on o is e = subst (λ x. Fine (moved x answer)) (sym (performs o is)) (subst Fine (sym e) over_is)
+      ends_on o is e = subst (λ x. Fine (moved x answer)) (sym (performs o is)) (subst Fine (sym e) over_fine)
 
       helps_on : (h : ℕ) (ins outs : List ℕ) → instruction code a ≡ Some (Help h ins outs) → (o : Option (List ℕ)) → helped code h (map a.values ins) ≡ o → Then
-      helps_on h ins outs is None e = subst (λ x. Fine (moved x answer)) (sym (performs _ is ∙ ap (help_to a rest outs) e)) over_is
+      helps_on h ins outs is None e = subst (λ x. Fine (moved x answer)) (sym (performs _ is ∙ ap (help_to a rest outs) e)) over_fine
       helps_on h ins outs is (Some xs) e = goes_on (write_all a outs xs ∷ rest) (performs _ is ∙ ap (help_to a rest outs) e) fine.waits
 
       branches : (x y l : ℕ) (b : Bool) → step code (a ∷ rest) ≡ Goes ((if b then at_place a (place_of (fn_of code a.f).code l) else onward a) ∷ rest) → Then
       branches x y l true e = goes_on _ e fine.waits
       branches x y l false e = goes_on _ e fine.waits
 
-      taken : (i : Option Mid) (b : Activation) (xs : List ℕ) → (under : List Activation) → AreCalled code under → Waits (take_back i b xs ∷ under)
-      taken i b xs under h = h
-
       returns_to : (under : List Activation) (vs : List ℕ) → rest ≡ under → AreCalled code under → instruction code a ≡ Some (Ret vs) → Then
-      returns_to [] vs e waits is = subst (λ x. Fine (moved x answer)) (sym (performs _ is ∙ ap (λ r. perform (Some (Ret vs)) code (fn_of code a.f) a r) e)) over_is
+      returns_to [] vs e waits is = subst (λ x. Fine (moved x answer)) (sym (performs _ is ∙ ap (λ r. perform (Some (Ret vs)) code (fn_of code a.f) a r) e)) over_fine
       returns_to (b ∷ under) vs e waits is =
           goes_on (take_back (instruction code b) b (map a.values vs) ∷ under) (performs _ is ∙ ap (λ r. perform (Some (Ret vs)) code (fn_of code a.f) a r) e) waits.1
 
@@ -169,7 +166,7 @@ module _ (code : MidCode) (size : Option Mid → ℕ) (help : ℕ) (sizes : HasS
       by_option (Some i) is = by_instruction i is
 
     next_fine : (s : List Activation) (answer : ℕ) → Fine s → Fine (moved (step code s) answer)
-    next_fine [] answer h = over_is
+    next_fine [] answer h = over_fine
     next_fine (a ∷ rest) answer h = by_option a rest h answer (instruction code a) refl
 
     pub reached : (root : ℕ) (answers : ℕ → ℕ) (k : ℕ) → Fine (state_at code root answers k)

@@ -75,9 +75,6 @@ module _ (given : Setting) (p : Program) (types checks : List Ty) (spots : List 
 
   -- ---- locals that become 0
 
-  size_at : ℕ → ℕ
-  size_at x = size_of p (slice_index_or types x plain.void)
-
   clear_flows : (x l n m : ℕ) (u : List Mid) → x < length types → F n u → n + 28 + 20 * size_of p (slice_index_or types x plain.void) ≤ m → F m (clear_code p types checks spots base x l ++ u)
   clear_flows x l n m u lt h le = by (slice_get spots x) refl
     where

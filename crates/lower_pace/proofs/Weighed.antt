@@ -10,7 +10,6 @@ use Rattle.nesc_core.specs.Nodes.{nodes_of, stmt_nodes_of}
 use Rattle.nesc_core.specs.Derefs.{ranges_of}
 use Rattle.nesc_core.specs.Weights.{local_bytes, pace_of_program}
 use Rattle.nesc_core.specs.WellFormed.{IsBody, IsWellFormed}
-use Rattle.core_meaning.specs.Layout.{size_of}
 use Rattle.mid_code.specs.declared.instr.Mid.{Mid}
 use Rattle.mid_code.specs.declared.instr.Mid.TheVariants.{Set, Bin, Poke, Label, Jump, Branch, Call, Help, Tick}
 use Rattle.mid_code.specs.declared.code.MidFn.{MidFn}
@@ -28,7 +27,7 @@ use Rattle.msp_select.specs.Weight.{IsWeighed, entry_size}
 use Rattle.msp_select.specs.Weight as weight
 use Rattle.msp_select.proofs.Bounds.{frames_are_small}
 use Rattle.msp_select.proofs.Weighing.{paced}
-use Rattle.lower_pace.specs.Pace.{HasFewCases, IsMeasured, LoweredCodeIsPaced, LoweredCodeIsWeighed, SelectedCodeKeepsPace, between_actions, heaviest_of, help_bound, longest_of, own_of, room}
+use Rattle.lower_pace.specs.Pace.{HasFewCases, IsMeasured, LoweredCodeIsPaced, LoweredCodeIsWeighed, SelectedCodeKeepsPace, TakesByte, between_actions, heaviest_of, help_bound, longest_of, own_of, room}
 use Rattle.lower_pace.specs.Silent.{silent_size}
 use Rattle.lower_pace.proofs.Silent.{falls, holds}
 use Rattle.lower_pace.proofs.Flow.{Flow, HasSizes, flow_more, is_call, is_help, is_light, is_small, nothing}
@@ -94,20 +93,20 @@ module _ (p : Program) (well : IsWellFormed p) (measured : IsMeasured p) where
   of_none : (f : ℕ) → slice_get p.bodies f ≡ None → fn_of (lowered p) f ≡ no_fn
   of_none f is = fn_none (mid_fn_of p (checks_of p)) p.bodies f no_fn is
 
-  abbrev Holds_little : MidFn → Type 0
-  Holds_little fn = own_bytes fn + 2 * count_pushed fn.params ≤ 10000
+  abbrev HoldsLittle : MidFn → Type 0
+  HoldsLittle fn = own_bytes fn + 2 * count_pushed fn.params ≤ 10000
 
-  frame_of : (f : ℕ) → Holds_little (fn_of (lowered p) f)
+  frame_of : (f : ℕ) → HoldsLittle (fn_of (lowered p) f)
   frame_of f = by (slice_get p.bodies f) refl
     where
-      by : (o : Option Body) → slice_get p.bodies f ≡ o → Holds_little (fn_of (lowered p) f)
-      by None is = subst Holds_little (sym (of_none f is)) (omega arith)
+      by : (o : Option Body) → slice_get p.bodies f ≡ o → HoldsLittle (fn_of (lowered p) f)
+      by None is = subst HoldsLittle (sym (of_none f is)) (omega arith)
       by (Some b) is =
           let body : IsBody p b = all_at (IsBody p) p.bodies f b well.bodies is in
           let small = frames_are_small (mid_fn_of p (checks_of p) b) (is_mid_fn p (checks_of p) b body).params in
           let within = (is_within p (checks_of p) b).within in
           let most = body.frame in
-          subst Holds_little (sym (of_body f b is)) (omega (arith, small, within, most))
+          subst HoldsLittle (sym (of_body f b is)) (omega (arith, small, within, most))
 
   entry_small : (f : ℕ) → entry_size (own_of p) f ≤ 15001
   entry_small f = let h = frame_of f in omega (arith, h)
@@ -129,7 +128,7 @@ module _ (p : Program) (well : IsWellFormed p) (measured : IsMeasured p) where
         by None is = subst (λ fn. Flow (given (lowered p) size help sizes labels f) most fn.code) (sym (of_none f is)) (nothing (given (lowered p) size help sizes labels f) most (omega arith))
         by (Some b) is =
             let few : HasFewCases b.code = all_at (λ b. HasFewCases b.code) p.bodies f b measured.cases is in
-            let some : All (λ t. 1 ≤ size_of p t) b.locals = all_at (λ b. All (λ t. 1 ≤ size_of p t) b.locals) p.bodies f b measured.locals is in
+            let some : All (TakesByte p) b.locals = all_at (λ b. All (TakesByte p) b.locals) p.bodies f b measured.locals is in
             let le = costs_within big (stmt_nodes_of b.code) (nodes_of p) (14000 + 140 * ranges_of p + 60 * local_bytes p) (nodes_within p f b is) less in
             flow_more (given (lowered p) size help sizes labels f) (50 + costs big (stmt_nodes_of b.code)) most _ (omega (arith, le))
             (body_flows (given (lowered p) size help sizes labels f) p (checks_of p) b (local_bytes p) big (ap (λ (fn : MidFn). fn.code) (of_body f b is)) (all_at (IsBody p) p.bodies f b well.bodies is) few some

@@ -2,7 +2,7 @@
 use Rattle.std.specs.Prelude.{⊤, ℕ, ◌+◌, ◌*◌, ◌/◌, ◌≤◌, List, length}
 use Rattle.std.specs.List.{All}
 use Rattle.nm_base.specs.declared.action.Action.{Action}
-use Rattle.nesc_core.specs.Plain.{Stmt, eval, block, branch, loop, switch, break, continue, return, atomic, clear, here, Stmts, no_stmts, more_stmts, Program}
+use Rattle.nesc_core.specs.Plain.{Ty, Stmt, eval, block, branch, loop, switch, break, continue, return, atomic, clear, here, Stmts, no_stmts, more_stmts, Program}
 use Rattle.nesc_core.specs.Nodes.{nodes_of}
 use Rattle.nesc_core.specs.Derefs.{ranges_of}
 use Rattle.nesc_core.specs.Weights.{local_bytes, pace_of_program}
@@ -38,10 +38,13 @@ abbrev mutual
   AllHaveFewCases no_stmts = ⊤
   AllHaveFewCases (more_stmts s rest) = HasFewCases s × AllHaveFewCases rest
 
+abbrev pub TakesByte : Program → Ty → Type 0
+TakesByte p t = 1 ≤ size_of p t
+
 -- what nodes and bytes measure: each case begins at a statement of its own, and each local takes a byte at least
 pub record IsMeasured (p : Program) : Type 0 where
   pub cases : All (λ b. HasFewCases b.code) p.bodies
-  pub locals : All (λ b. All (λ t. 1 ≤ size_of p t) b.locals) p.bodies
+  pub locals : All (λ b. All (TakesByte p) b.locals) p.bodies
 
 -- ---- numbers
 

@@ -2,5 +2,7 @@
 #![tactic(auto)]
 
 mod law;
+mod rows;
 
 pub use law::{lowered_code_is_paced, lowered_code_is_weighed, selected_code_keeps_pace};
+pub use rows::worked_rows;
