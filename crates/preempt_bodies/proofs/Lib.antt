@@ -1,0 +1,24 @@
+-- From open code to runs.
+pub mod Standing
+pub mod Words
+pub mod Alike
+pub mod Stretches
+pub mod Logged
+pub mod Acting
+pub mod Effects
+pub mod Carry
+pub mod Running
+pub mod Given
+pub mod Places
+pub mod BodyStep
+pub mod HandlerStep
+pub mod Enter
+pub mod BaseStep
+pub mod Whole
+pub mod Pieces
+pub mod Leaving
+pub mod Survival
+pub mod Idle
+pub mod WordBoards
+pub mod Eased
+pub mod Laid
