@@ -1,0 +1,5 @@
+pub mod Compiled
+pub mod AtomicFunction
+pub mod AtomicImage
+pub mod Laid
+pub mod Table

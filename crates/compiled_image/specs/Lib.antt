@@ -1,0 +1,5 @@
+pub mod Compiled
+pub mod AtomicImage
+pub mod Statements
+pub mod Laid
+pub mod Table
