@@ -5,3 +5,4 @@ pub mod Laid
 pub mod Steps
 pub mod Shifts
 pub mod Multiply
+pub mod Divide

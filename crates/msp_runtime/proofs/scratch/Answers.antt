@@ -2,6 +2,7 @@ use Rattle.std.proofs.Common.{refl}
 use Rattle.msp_runtime.proofs.Laid.{code_is_routine}
 use Rattle.msp_runtime.proofs.Shifts.{shift_left_does}
 use Rattle.msp_runtime.proofs.Multiply.{multiply_does}
+use Rattle.msp_runtime.proofs.Divide.{divide_does}
 use Rattle.msp_runtime.proofs.scratch.Goals as goal
 
 pub returns : goal.returns
