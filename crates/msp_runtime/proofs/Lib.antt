@@ -6,3 +6,5 @@ pub mod Steps
 pub mod Shifts
 pub mod Multiply
 pub mod Divide
+pub mod Words
+pub mod Signed
