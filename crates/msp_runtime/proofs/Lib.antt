@@ -8,3 +8,5 @@ pub mod Multiply
 pub mod Divide
 pub mod Words
 pub mod Signed
+pub mod Narrow
+pub mod WorkedRows

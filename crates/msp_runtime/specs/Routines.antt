@@ -3,7 +3,7 @@ use Rattle.std.specs.Prelude.{ℕ, ◌+◌, ◌-◌, ◌*◌, ◌/◌, ◌%◌, 
 use Rattle.nm_base.specs.declared.int_type.IntType.{IntType}
 use Rattle.nm_base.specs.declared.int_type.IntType.TheVariants.{I8, U8, I16, U16, I32, U32}
 use Rattle.msp_isa.specs.declared.instr.Cond.TheVariants.{Jne, Jnc, Jc}
-use Rattle.msp_isa.specs.declared.instr.Op2.TheVariants.{Mov, Add, Addc, Subc, Sub, Cmp, And}
+use Rattle.msp_isa.specs.declared.instr.Op2.TheVariants.{Mov, Add, Addc, Subc, Sub, Cmp, And, Bis}
 use Rattle.mid_code.specs.declared.help.HelpOp.{HelpOp}
 use Rattle.mid_code.specs.declared.help.HelpOp.TheVariants.{Mul, Div, Rem, Shl, Shr}
 use Rattle.mid_code.specs.Help.{operation_at, type_at}
@@ -102,6 +102,15 @@ low_byte r = Do And (literal 255) r
 abbrev pub extend : (is_signed : Bool) → ℕ → Code
 extend is_signed r = if is_signed then all (low_byte r ∷ where_least 128 r (Do Add (literal 0xFF00) r) ∷ []) else low_byte r
 
+abbrev pub narrow : Code → Code
+narrow c = all (c ∷ low_byte 12 ∷ [])
+
+abbrev pub narrow_right : (is_signed : Bool) → Code
+narrow_right is_signed = narrow (all (extend is_signed 12 ∷ shift_right is_signed ∷ []))
+
+abbrev pub narrow_division : (is_signed : Bool) → Code → Code
+narrow_division is_signed c = narrow (all (extend is_signed 12 ∷ extend is_signed 13 ∷ c ∷ []))
+
 -- ---- 32 bits: x in R12 and R13, y in R14 and R15, or the count in R14
 
 abbrev pub shift_left_wide : Code
@@ -116,3 +125,80 @@ abbrev pub multiply_wide : Code
 multiply_wide =
     Keeping 9 (Keeping 10 (Keeping 11 (all (copy 12 10 ∷ copy 13 11 ∷ set 0 12 ∷ set 0 13 ∷ set 32 9
     ∷ Times 32 9 (all (add 12 12 ∷ add_carry 13 13 ∷ add 14 14 ∷ add_carry 15 15 ∷ Skip Jnc (all (add 10 12 ∷ add_carry 11 13 ∷ [])) ∷ [])) ∷ []))))
+
+-- the quotient in R12 and R13, the remainder in R10 and R11; where R14 and R15 are 0, both are 0
+abbrev pub divide_wide : Code
+divide_wide =
+    all (copy 14 9 ∷ Do Bis (register 15) 9 ∷ where_below 1 9 (all (set 0 12 ∷ set 0 13 ∷ set 1 14 ∷ [])) ∷ set 0 10 ∷ set 0 11 ∷ set 32 9
+    ∷ Times 32 9 (all (add 12 12 ∷ add_carry 13 13 ∷ add_carry 10 10 ∷ add_carry 11 11 ∷ Skip Jc (all (compare 15 11 ∷ Skip Jne (compare 14 10) ∷ []))
+    ∷ Skip Jnc (all (subtract 14 10 ∷ subtract_carry 15 11 ∷ count_up 12 ∷ [])) ∷ [])) ∷ [])
+
+-- by way of R10 and R11
+abbrev pub negate_wide : (low high : ℕ) → Code
+negate_wide low high = all (set 0 10 ∷ set 0 11 ∷ subtract low 10 ∷ subtract_carry high 11 ∷ copy 10 low ∷ copy 11 high ∷ [])
+
+-- without its sign, which R8 counts
+abbrev pub magnitude_wide : (counts : Bool) → (low high : ℕ) → Code
+magnitude_wide counts low high = where_least 0x8000 high (all (negate_wide low high ∷ all (if counts then count_up 8 ∷ [] else []) ∷ []))
+
+abbrev pub keeping_four : Code → Code
+keeping_four c = Keeping 8 (Keeping 9 (Keeping 10 (Keeping 11 c)))
+
+abbrev pub signed_back : Code
+signed_back = all (Do Cmp (literal 1) 8 ∷ Skip Jne (negate_wide 12 13) ∷ [])
+
+abbrev pub remainder_over : Code
+remainder_over = all (copy 10 12 ∷ copy 11 13 ∷ [])
+
+abbrev pub quotient_wide : (is_signed : Bool) → Code
+quotient_wide false = Keeping 9 (Keeping 10 (Keeping 11 divide_wide))
+quotient_wide true = keeping_four (all (set 0 8 ∷ magnitude_wide true 12 13 ∷ magnitude_wide true 14 15 ∷ divide_wide ∷ signed_back ∷ []))
+
+abbrev pub remainder_wide : (is_signed : Bool) → Code
+remainder_wide false = Keeping 9 (Keeping 10 (Keeping 11 (all (divide_wide ∷ remainder_over ∷ []))))
+remainder_wide true = keeping_four (all (set 0 8 ∷ magnitude_wide true 12 13 ∷ magnitude_wide false 14 15 ∷ divide_wide ∷ remainder_over ∷ signed_back ∷ []))
+
+-- ---- the code of an operation, by its width
+
+abbrev pub is_signed : IntType → Bool
+is_signed I8 = true
+is_signed I16 = true
+is_signed I32 = true
+is_signed _ = false
+
+abbrev pub byte_code : (is_signed : Bool) → HelpOp → Code
+byte_code s Mul = narrow multiply
+byte_code s Div = narrow_division s (quotient s)
+byte_code s Rem = narrow_division s (remainder s)
+byte_code s Shl = narrow shift_left
+byte_code s Shr = narrow_right s
+
+abbrev pub word_code : (is_signed : Bool) → HelpOp → Code
+word_code s Mul = multiply
+word_code s Div = quotient s
+word_code s Rem = remainder s
+word_code s Shl = shift_left
+word_code s Shr = shift_right s
+
+abbrev pub wide_code : (is_signed : Bool) → HelpOp → Code
+wide_code s Mul = multiply_wide
+wide_code s Div = quotient_wide s
+wide_code s Rem = remainder_wide s
+wide_code s Shl = shift_left_wide
+wide_code s Shr = shift_right_wide s
+
+abbrev pub code_for : IntType → HelpOp → Code
+code_for I8 o = byte_code true o
+code_for U8 o = byte_code false o
+code_for I16 o = word_code true o
+code_for U16 o = word_code false o
+code_for I32 o = wide_code true o
+code_for U32 o = wide_code false o
+
+-- a number without an operation is a lone RET
+abbrev pub code_of : Option IntType → Option HelpOp → Code
+code_of (Some t) (Some o) = code_for t o
+code_of _ _ = Nothing
+
+abbrev pub code_at : (h : ℕ) → Code
+code_at h = code_of (type_at (h / 8)) (operation_at (h % 8))

@@ -1,0 +1,72 @@
+-- Routines of 8 bits, by way of 16.
+use Rattle.std.proofs.Common.{◌≡◌, ℕ, zero, suc, ◌+◌, ◌-◌, ◌*◌, ◌/◌, ◌%◌, ◌^◌, ◌==◌, ◌<◌, ◌≤◌, Bool, true, false, cond, nat_le, nat_lt, [], ◌∷◌, refl, sym, ap, ◌∙◌, subst, arith, bit_and}
+use Rattle.std.specs.Prelude.{ℤ, pos, negsuc, int_div, int_rem, int_lt}
+use Rattle.std.proofs.lemmas.Bool.Decides.{nat_tests}
+use Rattle.std.proofs.lemmas.Int.{ints}
+use Rattle.std.proofs.lemmas.Nat.{and_mask}
+use Rattle.nm_base.specs.declared.int_type.IntType.TheVariants.{I8, U8, I16, U16}
+use Rattle.nm_base.specs.IntType.{signed_part, wrapped}
+use Rattle.mid_code.specs.Help.{floor_div, residue, shifted_right, sign, unless_zero}
+use Rattle.msp_runtime.specs.Code.{Code, Registers}
+use Rattle.msp_runtime.specs.Routines.{all, extend, low_byte, narrow}
+use Rattle.msp_runtime.proofs.Steps.{Ends, at_least, does, nothing, then}
+use Rattle.msp_runtime.proofs.Words.{signed_word, unsigned_word}
+
+-- ---- numbers
+
+pub residue_8 : (z : ℤ) → residue 16 z % 256 ≡ residue 8 z
+residue_8 (pos a) = omega arith
+residue_8 (negsuc a) = omega arith
+
+-- a byte as a word
+abbrev pub extended : (is_signed : Bool) → ℕ → ℕ
+extended true x = cond (nat_le 128 (x % 256)) (x % 256 + 65280) (x % 256)
+extended false x = x % 256
+
+pub small_extended : (s : Bool) (x : ℕ) → extended s x < 0x10000
+small_extended false x = omega arith
+small_extended true x = by (nat_le 128 (x % 256))
+  where
+    by : (b : Bool) → cond b (x % 256 + 65280) (x % 256) < 0x10000
+    by true = omega arith
+    by false = omega arith
+
+pub signed_byte : (x : ℕ) → wrapped I16 (pos (extended true x)) ≡ wrapped I8 (pos x)
+signed_byte x = by (nat_le 128 (x % 256)) refl
+  where
+    y : ℕ
+    y = x % 256
+
+    by : (b : Bool) → nat_le 128 (x % 256) ≡ b → wrapped I16 (pos (cond b (x % 256 + 65280) (x % 256))) ≡ signed_part (pos (x % 256)) (pos 128)
+    by true e =
+        let le : 128 ≤ x % 256 = grind (arith, nat_tests) in let t : nat_lt (x % 256) 128 ≡ false = grind (arith, nat_tests) in
+        let up : nat_le 0x8000 (x % 256 + 65280) ≡ true = grind (arith, nat_tests) in
+        signed_word (x % 256 + 65280) (omega arith) ∙ ap (λ b. cond b (negsuc (65535 - (x % 256 + 65280))) (pos (x % 256 + 65280))) up ∙ rw t (omega (arith, ints, le))
+    by false e =
+        let lt : x % 256 < 128 = grind (arith, nat_tests) in let t : nat_lt (x % 256) 128 ≡ true = grind (arith, nat_tests) in
+        let low : nat_le 0x8000 (x % 256) ≡ false = grind (arith, nat_tests) in
+        signed_word (x % 256) (omega arith) ∙ ap (λ b. cond b (negsuc (65535 - x % 256)) (pos (x % 256))) low ∙ rw t refl
+
+pub unsigned_byte : (x : ℕ) → wrapped U16 (pos (extended false x)) ≡ wrapped U8 (pos x)
+unsigned_byte x = unsigned_word (x % 256) (omega arith)
+
+-- ---- code
+
+pub masked : {c : Code} {st : Registers} (r : ℕ) → Ends c st (λ s. s.regs 12 ≡ r) → Ends (narrow c) st (λ s. s.regs 12 ≡ r % 256)
+masked {c} {st} r e = then (record { bounded = e.bounded; after = then (does (nothing (ap (λ n. bit_and n 255) e.after ∙ and_mask r 8))) })
+
+pub extend_12 : (is_signed : Bool) (st : Registers) (x y : ℕ) (P : Registers → Type 0) → st.regs 12 ≡ x → st.regs 13 ≡ y → ((s : Registers) → s.regs 12 ≡ extended is_signed x → s.regs 13 ≡ y → P s) → Ends (extend is_signed 12) st P
+extend_12 false st x y P ex ey more = does (more _ (ap (λ n. bit_and n 255) ex ∙ and_mask x 8) ey)
+extend_12 true st x y P ex ey more =
+    let e : bit_and (st.regs 12) 255 ≡ x % 256 = ap (λ n. bit_and n 255) ex ∙ and_mask x 8 in
+    then (does (then (at_least 128 (x % 256) refl (omega arith) e tt
+    (λ le. let t : nat_le 128 (x % 256) ≡ true = grind (arith, nat_tests) in nothing (more _ (ap (λ n. (n + 65280 + 0) % 0x10000) e ∙ rw t (omega arith)) ey))
+    (λ lt. let t : nat_le 128 (x % 256) ≡ false = grind (arith, nat_tests) in nothing (more _ (e ∙ rw t refl) ey)))))
+
+pub extend_13 : (is_signed : Bool) (st : Registers) (x y : ℕ) (P : Registers → Type 0) → st.regs 12 ≡ x → st.regs 13 ≡ y → ((s : Registers) → s.regs 12 ≡ x → s.regs 13 ≡ extended is_signed y → P s) → Ends (extend is_signed 13) st P
+extend_13 false st x y P ex ey more = does (more _ ex (ap (λ n. bit_and n 255) ey ∙ and_mask y 8))
+extend_13 true st x y P ex ey more =
+    let e : bit_and (st.regs 13) 255 ≡ y % 256 = ap (λ n. bit_and n 255) ey ∙ and_mask y 8 in
+    then (does (then (at_least 128 (y % 256) refl (omega arith) e tt
+    (λ le. let t : nat_le 128 (y % 256) ≡ true = grind (arith, nat_tests) in nothing (more _ ex (ap (λ n. (n + 65280 + 0) % 0x10000) e ∙ rw t (omega arith))))
+    (λ lt. let t : nat_le 128 (y % 256) ≡ false = grind (arith, nat_tests) in nothing (more _ ex (e ∙ rw t refl))))))
