@@ -9,4 +9,5 @@ pub mod Divide
 pub mod Words
 pub mod Signed
 pub mod Narrow
+pub mod Meets
 pub mod WorkedRows

@@ -10,7 +10,7 @@ use Rattle.mid_code.specs.Help.{floor_div, residue, shifted_right, sign, unless_
 use Rattle.msp_runtime.specs.Code.{Code, Registers}
 use Rattle.msp_runtime.specs.Routines.{all, extend, low_byte, narrow}
 use Rattle.msp_runtime.proofs.Steps.{Ends, at_least, does, nothing, then}
-use Rattle.msp_runtime.proofs.Words.{signed_word, unsigned_word}
+use Rattle.msp_runtime.proofs.Words.{each16, signed_word, unsigned_word}
 
 -- ---- numbers
 
@@ -49,6 +49,45 @@ signed_byte x = by (nat_le 128 (x % 256)) refl
 
 pub unsigned_byte : (x : ℕ) → wrapped U16 (pos (extended false x)) ≡ wrapped U8 (pos x)
 unsigned_byte x = unsigned_word (x % 256) (omega arith)
+
+-- a shift of a byte by 8 or more leaves its sign, as one by 16 does
+gone : (a n : ℕ) → a < 256 → n < 16 → 8 ≤ n → a / 2 ^ n ≡ 0
+gone a n lt l le = each16 (λ k. 8 ≤ k → a / 2 ^ k ≡ 0) (λ h. omega (arith, h, lt)) (λ h. omega (arith, h, lt)) (λ h. omega (arith, h, lt)) (λ h. omega (arith, h, lt)) (λ h. omega (arith, h, lt)) (λ h. omega (arith, h, lt)) (λ h. omega (arith, h, lt)) (λ h. omega (arith, h, lt)) (λ h. omega (arith, h, lt)) (λ h. omega (arith, h, lt)) (λ h. omega (arith, h, lt)) (λ h. omega (arith, h, lt)) (λ h. omega (arith, h, lt)) (λ h. omega (arith, h, lt)) (λ h. omega (arith, h, lt)) (λ h. omega (arith, h, lt)) n l le
+
+same_positive : (a n : ℕ) → a < 256 → cond (nat_lt n 16) (pos (a / 2 ^ n)) (pos 0) ≡ cond (nat_lt n 8) (pos (a / 2 ^ n)) (pos 0)
+same_positive a n lt = by (nat_lt n 8) (nat_lt n 16) refl refl
+  where
+    by : (b c : Bool) → nat_lt n 8 ≡ b → nat_lt n 16 ≡ c → cond c (pos (a / 2 ^ n)) (pos 0) ≡ cond b (pos (a / 2 ^ n)) (pos 0)
+    by true true e f = refl
+    by true false e f = absurd (let l : n < 8 = grind (arith, nat_tests) in let m : 16 ≤ n = grind (arith, nat_tests) in omega (arith, l, m))
+    by false true e f = ap pos (gone a n lt (grind (arith, nat_tests)) (grind (arith, nat_tests)))
+    by false false e f = refl
+
+same_negative : (a n : ℕ) → a < 256 → cond (nat_lt n 16) (negsuc (a / 2 ^ n)) (negsuc 0) ≡ cond (nat_lt n 8) (negsuc (a / 2 ^ n)) (negsuc 0)
+same_negative a n lt = by (nat_lt n 8) (nat_lt n 16) refl refl
+  where
+    by : (b c : Bool) → nat_lt n 8 ≡ b → nat_lt n 16 ≡ c → cond c (negsuc (a / 2 ^ n)) (negsuc 0) ≡ cond b (negsuc (a / 2 ^ n)) (negsuc 0)
+    by true true e f = refl
+    by true false e f = absurd (let l : n < 8 = grind (arith, nat_tests) in let m : 16 ≤ n = grind (arith, nat_tests) in omega (arith, l, m))
+    by false true e f = ap negsuc (gone a n lt (grind (arith, nat_tests)) (grind (arith, nat_tests)))
+    by false false e f = refl
+
+byte_is : (x : ℕ) → wrapped I8 (pos x) ≡ cond (nat_le 128 (x % 256)) (negsuc (255 - x % 256)) (pos (x % 256))
+byte_is x = by (nat_le 128 (x % 256)) refl
+  where
+    by : (b : Bool) → nat_le 128 (x % 256) ≡ b → signed_part (pos (x % 256)) (pos 128) ≡ cond b (negsuc (255 - x % 256)) (pos (x % 256))
+    by true e = let le : 128 ≤ x % 256 = grind (arith, nat_tests) in let t : nat_lt (x % 256) 128 ≡ false = grind (arith, nat_tests) in rw t (omega (arith, ints, le))
+    by false e = let t : nat_lt (x % 256) 128 ≡ true = grind (arith, nat_tests) in rw t refl
+
+pub right_signed_byte : (x n : ℕ) → shifted_right I16 (wrapped I8 (pos x)) n ≡ shifted_right I8 (wrapped I8 (pos x)) n
+right_signed_byte x n = by (nat_le 128 (x % 256)) (byte_is x)
+  where
+    by : (b : Bool) → wrapped I8 (pos x) ≡ cond b (negsuc (255 - x % 256)) (pos (x % 256)) → shifted_right I16 (wrapped I8 (pos x)) n ≡ shifted_right I8 (wrapped I8 (pos x)) n
+    by true e = ap (λ z. shifted_right I16 z n) e ∙ same_negative (255 - x % 256) n (omega arith) ∙ ap (λ z. shifted_right I8 z n) (sym e)
+    by false e = ap (λ z. shifted_right I16 z n) e ∙ same_positive (x % 256) n (omega arith) ∙ ap (λ z. shifted_right I8 z n) (sym e)
+
+pub right_unsigned_byte : (x n : ℕ) → shifted_right U16 (wrapped U8 (pos x)) n ≡ shifted_right U8 (wrapped U8 (pos x)) n
+right_unsigned_byte x n = same_positive (x % 256) n (omega arith)
 
 -- ---- code
 
