@@ -6,7 +6,7 @@ use Rattle.msp_runtime.proofs.Divide.{divide_does}
 use Rattle.msp_runtime.proofs.Words.{each16}
 use Rattle.msp_runtime.proofs.Signed.{remainder_does}
 use Rattle.msp_runtime.proofs.Narrow.{masked}
-use Rattle.msp_runtime.proofs.Meets.{word_signed}
+use Rattle.msp_runtime.proofs.Meets.{byte_signed}
 use Rattle.msp_runtime.proofs.WorkedRows.{worked_rows}
 use Rattle.msp_runtime.proofs.scratch.Goals as goal
 
