@@ -10,4 +10,5 @@ pub mod Words
 pub mod Signed
 pub mod Narrow
 pub mod Meets
+pub mod Numbers
 pub mod WorkedRows

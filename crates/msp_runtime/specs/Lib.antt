@@ -1,3 +1,5 @@
 pub mod Code
 pub mod Routines
 pub mod Rows
+pub mod Laws
+pub mod Pieces

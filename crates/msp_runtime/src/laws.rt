@@ -1,0 +1,8 @@
+//! Where routines stand, they do what the helpers of compiled code give.
+
+ghost use Rattle.msp_runtime.specs.Laws.{RoutinesAreRoutines};
+
+/// Where the code of a number's operation is laid out, the law of selected code has the routine that it asks for.
+pub fn routines_are_routines()
+    ensures { RoutinesAreRoutines }
+{}
