@@ -31,6 +31,14 @@ small_extended true x = by (nat_le 128 (x % 256))
     by true = omega arith
     by false = omega arith
 
+-- 128 more, the low byte of that, and 128 less
+turned_over : (x : ℕ) → ((x + 128 + 0) % 0x10000 % 256 + (0x10000 - 1 - 128) + 1) % 0x10000 ≡ extended true x
+turned_over x = by (nat_le 128 (x % 256)) refl
+  where
+    by : (b : Bool) → nat_le 128 (x % 256) ≡ b → ((x + 128 + 0) % 0x10000 % 256 + (0x10000 - 1 - 128) + 1) % 0x10000 ≡ cond b (x % 256 + 65280) (x % 256)
+    by true e = let le : 128 ≤ x % 256 = grind (arith, nat_tests) in omega (arith, le)
+    by false e = let lt : x % 256 < 128 = grind (arith, nat_tests) in omega (arith, lt)
+
 pub signed_byte : (x : ℕ) → wrapped I16 (pos (extended true x)) ≡ wrapped I8 (pos x)
 signed_byte x = by (nat_le 128 (x % 256)) refl
   where
@@ -97,15 +105,11 @@ masked {c} {st} r e = then (record { bounded = e.bounded; after = then (does (no
 pub extend_12 : (is_signed : Bool) (st : Registers) (x y : ℕ) (P : Registers → Type 0) → st.regs 12 ≡ x → st.regs 13 ≡ y → ((s : Registers) → s.regs 12 ≡ extended is_signed x → s.regs 13 ≡ y → P s) → Ends (extend is_signed 12) st P
 extend_12 false st x y P ex ey more = does (more _ (ap (λ n. bit_and n 255) ex ∙ and_mask x 8) ey)
 extend_12 true st x y P ex ey more =
-    let e : bit_and (st.regs 12) 255 ≡ x % 256 = ap (λ n. bit_and n 255) ex ∙ and_mask x 8 in
-    then (does (then (at_least 128 (x % 256) refl (omega arith) e tt
-    (λ le. let t : nat_le 128 (x % 256) ≡ true = grind (arith, nat_tests) in nothing (more _ (ap (λ n. (n + 65280 + 0) % 0x10000) e ∙ rw t (omega arith)) ey))
-    (λ lt. let t : nat_le 128 (x % 256) ≡ false = grind (arith, nat_tests) in nothing (more _ (e ∙ rw t refl) ey)))))
+    then (does (then (does (then (does (nothing (more _
+    (ap (λ n. (bit_and ((n + 128 + 0) % 0x10000) 255 + (0x10000 - 1 - 128) + 1) % 0x10000) ex ∙ ap (λ n. (n + (0x10000 - 1 - 128) + 1) % 0x10000) (and_mask ((x + 128 + 0) % 0x10000) 8) ∙ turned_over x) ey)))))))
 
 pub extend_13 : (is_signed : Bool) (st : Registers) (x y : ℕ) (P : Registers → Type 0) → st.regs 12 ≡ x → st.regs 13 ≡ y → ((s : Registers) → s.regs 12 ≡ x → s.regs 13 ≡ extended is_signed y → P s) → Ends (extend is_signed 13) st P
 extend_13 false st x y P ex ey more = does (more _ ex (ap (λ n. bit_and n 255) ey ∙ and_mask y 8))
 extend_13 true st x y P ex ey more =
-    let e : bit_and (st.regs 13) 255 ≡ y % 256 = ap (λ n. bit_and n 255) ey ∙ and_mask y 8 in
-    then (does (then (at_least 128 (y % 256) refl (omega arith) e tt
-    (λ le. let t : nat_le 128 (y % 256) ≡ true = grind (arith, nat_tests) in nothing (more _ ex (ap (λ n. (n + 65280 + 0) % 0x10000) e ∙ rw t (omega arith))))
-    (λ lt. let t : nat_le 128 (y % 256) ≡ false = grind (arith, nat_tests) in nothing (more _ ex (e ∙ rw t refl))))))
+    then (does (then (does (then (does (nothing (more _ ex
+    (ap (λ n. (bit_and ((n + 128 + 0) % 0x10000) 255 + (0x10000 - 1 - 128) + 1) % 0x10000) ey ∙ ap (λ n. (n + (0x10000 - 1 - 128) + 1) % 0x10000) (and_mask ((y + 128 + 0) % 0x10000) 8) ∙ turned_over y))))))))

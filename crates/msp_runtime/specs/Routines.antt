@@ -61,9 +61,11 @@ abbrev pub shift_left : Code
 shift_left = all (where_least 16 13 (all (set 0 12 ∷ set 0 13 ∷ [])) ∷ Times 15 13 (add 12 12) ∷ [])
 
 -- 32 bits, of which the high half is the sign, go left by what 16 is more than the count, and their high half is the result
+abbrev pub right_turns : Code
+right_turns = all (where_least 16 13 (set 16 13) ∷ set 16 15 ∷ subtract 13 15 ∷ Times 16 15 (all (add 12 12 ∷ add_carry 14 14 ∷ [])) ∷ copy 14 12 ∷ [])
+
 abbrev pub shift_right : (is_signed : Bool) → Code
-shift_right is_signed =
-    all (fill_if is_signed 12 14 ∷ where_least 16 13 (set 16 13) ∷ set 16 15 ∷ subtract 13 15 ∷ Times 16 15 (all (add 12 12 ∷ add_carry 14 14 ∷ [])) ∷ copy 14 12 ∷ [])
+shift_right is_signed = Then (fill_if is_signed 12 14) right_turns
 
 abbrev pub multiply : Code
 multiply = all (copy 12 14 ∷ set 0 12 ∷ set 16 15 ∷ Times 16 15 (all (add 12 12 ∷ add 13 13 ∷ Skip Jnc (add 14 12) ∷ [])) ∷ [])
@@ -100,7 +102,7 @@ abbrev pub low_byte : ℕ → Code
 low_byte r = Do And (literal 255) r
 
 abbrev pub extend : (is_signed : Bool) → ℕ → Code
-extend is_signed r = if is_signed then all (low_byte r ∷ where_least 128 r (Do Add (literal 0xFF00) r) ∷ []) else low_byte r
+extend is_signed r = if is_signed then all (Do Add (literal 128) r ∷ low_byte r ∷ Do Sub (literal 128) r ∷ []) else low_byte r
 
 abbrev pub narrow : Code → Code
 narrow c = all (c ∷ low_byte 12 ∷ [])
@@ -116,10 +118,13 @@ narrow_division is_signed c = narrow (all (extend is_signed 12 ∷ extend is_sig
 abbrev pub shift_left_wide : Code
 shift_left_wide = all (where_least 32 14 (all (set 0 12 ∷ set 0 13 ∷ set 0 14 ∷ [])) ∷ Times 31 14 (all (add 12 12 ∷ add_carry 13 13 ∷ [])) ∷ [])
 
+abbrev pub right_turns_wide : Code
+right_turns_wide =
+    all (copy 10 11 ∷ where_least 32 14 (set 32 14) ∷ set 32 15 ∷ subtract 14 15
+    ∷ Times 32 15 (all (add 12 12 ∷ add_carry 13 13 ∷ add_carry 10 10 ∷ add_carry 11 11 ∷ [])) ∷ copy 10 12 ∷ copy 11 13 ∷ [])
+
 abbrev pub shift_right_wide : (is_signed : Bool) → Code
-shift_right_wide is_signed =
-    Keeping 10 (Keeping 11 (all (fill_if is_signed 13 10 ∷ copy 10 11 ∷ where_least 32 14 (set 32 14) ∷ set 32 15 ∷ subtract 14 15
-    ∷ Times 32 15 (all (add 12 12 ∷ add_carry 13 13 ∷ add_carry 10 10 ∷ add_carry 11 11 ∷ [])) ∷ copy 10 12 ∷ copy 11 13 ∷ [])))
+shift_right_wide is_signed = Keeping 10 (Keeping 11 (Then (fill_if is_signed 13 10) right_turns_wide))
 
 abbrev pub multiply_wide : Code
 multiply_wide =
