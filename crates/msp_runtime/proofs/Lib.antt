@@ -6,7 +6,7 @@ pub mod Steps
 pub mod Shifts
 pub mod Multiply
 pub mod Divide
-pub mod Words
+pub mod GivenWords
 pub mod Signed
 pub mod Narrow
 pub mod Meets

@@ -16,7 +16,7 @@ use Rattle.msp_runtime.proofs.Shifts.{above, risen, shift_left_does, shift_right
 use Rattle.msp_runtime.proofs.Multiply.{multiply_does}
 use Rattle.msp_runtime.proofs.Divide.{divide_does, quotient_of, remainder_of}
 use Rattle.msp_runtime.proofs.Signed.{quotient_does, remainder_does}
-use Rattle.msp_runtime.proofs.Words.{each16, quotient_signed, quotient_unsigned, remainder_signed, remainder_unsigned, right_signed, right_unsigned}
+use Rattle.msp_runtime.proofs.GivenWords.{each16, quotient_signed, quotient_unsigned, remainder_signed, remainder_unsigned, right_signed, right_unsigned}
 use Rattle.msp_runtime.proofs.Narrow.{extend_12, extend_13, extended, masked, residue_8, right_signed_byte, right_unsigned_byte, signed_byte, small_extended, unsigned_byte}
 
 pub residue_small : (z : ℤ) → residue 16 z < 0x10000

@@ -10,7 +10,7 @@ use Rattle.mid_code.specs.Help.{floor_div, residue, shifted_right, sign, unless_
 use Rattle.msp_runtime.specs.Code.{Code, Registers}
 use Rattle.msp_runtime.specs.Routines.{all, extend, low_byte, narrow}
 use Rattle.msp_runtime.proofs.Steps.{Ends, at_least, does, nothing, then}
-use Rattle.msp_runtime.proofs.Words.{each16, signed_word, unsigned_word}
+use Rattle.msp_runtime.proofs.GivenWords.{each16, signed_word, unsigned_word}
 
 -- ---- numbers
 

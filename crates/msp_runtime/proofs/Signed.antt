@@ -12,7 +12,7 @@ use Rattle.msp_runtime.specs.Routines.{all, copy, divide, magnitude, negate, quo
 use Rattle.msp_runtime.proofs.Running.{code_leaves}
 use Rattle.msp_runtime.proofs.Steps.{Ends, at_least, does, keeps, nothing, skips, then}
 use Rattle.msp_runtime.proofs.Divide.{IsDivided, divide_does, quotient_of, remainder_of}
-use Rattle.msp_runtime.proofs.Words.{differs, magnitude_of, negated, signed_by}
+use Rattle.msp_runtime.proofs.GivenWords.{differs, magnitude_of, negated, signed_by}
 
 -- what code leaves, with what it does not touch
 onward : {c : Code} {st : Registers} {P Q : Registers → Type 0} → Ends c st P → leaves 11 c ≡ true → ((s : Registers) → P s → s.regs 11 ≡ st.regs 11 → Q s) → Ends c st Q

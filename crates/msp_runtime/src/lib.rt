@@ -1,10 +1,12 @@
 //! The routines that compiled code calls: multiplication, division, shifts and the checks of pointers.
 #![tactic(auto)]
 
+mod instructions;
 mod laws;
-mod pieces;
 mod put;
 mod rows;
+mod wide;
+mod words;
 
 pub use laws::routines_are_routines;
 pub use rows::worked_rows;
