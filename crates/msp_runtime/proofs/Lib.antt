@@ -10,5 +10,7 @@ pub mod GivenWords
 pub mod Signed
 pub mod Narrow
 pub mod Meets
+pub mod WideProducts
+pub mod WideShifts
 pub mod Numbers
 pub mod WorkedRows

@@ -1,5 +1,5 @@
 -- From the code of each number to the routine that a Help asks for.
-use Rattle.std.proofs.Common.{Some, None, ◌≡◌, Option, ℕ, zero, suc, ◌+◌, ◌-◌, ◌*◌, ◌/◌, ◌%◌, ◌==◌, ◌<◌, ◌≤◌, Bool, true, false, cond, nat_le, nat_lt, List, [], ◌∷◌, length, refl, sym, ap, ◌∙◌, subst, arith}
+use Rattle.std.proofs.Common.{Some, None, ◌≡◌, Option, ℕ, zero, suc, ◌+◌, ◌-◌, ◌*◌, ◌/◌, ◌%◌, ◌^◌, ◌==◌, ◌<◌, ◌≤◌, Bool, true, false, cond, nat_le, nat_lt, List, [], ◌∷◌, length, refl, sym, ap, ◌∙◌, subst, arith}
 use Rattle.std.specs.Prelude.{ℤ, pos, negsuc}
 use Rattle.std.proofs.lemmas.Bool.Decides.{nat_tests}
 use Rattle.std.proofs.lemmas.Nat.{mod_below}
@@ -13,11 +13,13 @@ use Rattle.mid_code.specs.Help.{computed, first_check, helped, is_wide, operatio
 use Rattle.msp_select.specs.Routine.{Hold, IsPassed}
 use Rattle.msp_runtime.specs.Code.{Code, Registers, IsBounded}
 use Rattle.msp_runtime.specs.Routines.{code_at, code_for, code_of}
-use Rattle.msp_runtime.specs.Laws.{RoutinesAreRoutines}
+use Rattle.msp_runtime.specs.Laws.{RoutinesAreRoutines, is_covered}
 use Rattle.msp_runtime.proofs.Laid.{IsRoutineCode, code_is_routine}
 use Rattle.msp_runtime.proofs.Meets.{HoldsNumber, after, byte_signed, byte_unsigned, residue_small, word_signed, word_unsigned}
 use Rattle.msp_runtime.proofs.Returning.{Gives, Meets}
 use Rattle.msp_runtime.proofs.Steps.{Ends, nothing}
+use Rattle.msp_runtime.proofs.WideProducts.{IsWideNumber, multiply_wide_does, shift_left_wide_does, shifted_left_wide, wide}
+use Rattle.msp_runtime.proofs.WideShifts.{right_signed_wide, right_unsigned_wide, shift_right_wide_does}
 
 -- ---- what is so of all code
 
@@ -115,14 +117,6 @@ pair_given U16 n o x y st h = one_held (operation o U16 x y) (small_word o x y).
 pair_given I32 n o x y st h = absurd (let z : ⊥ = cc in z)
 pair_given U32 n o x y st h = absurd (let z : ⊥ = cc in z)
 
-narrow_passed : (t : IntType) → is_wide t ≡ false → (o : HelpOp) → passed_to o t ≡ 2
-narrow_passed I8 n o = two o
-narrow_passed U8 n o = two o
-narrow_passed I16 n o = two o
-narrow_passed U16 n o = two o
-narrow_passed I32 n o = absurd (let z : ⊥ = cc in z)
-narrow_passed U32 n o = absurd (let z : ⊥ = cc in z)
-
 narrow_given : (t : IntType) → is_wide t ≡ false → (o : HelpOp) (values : List ℕ) (st : Registers) → length values ≡ 2 → Hold 12 values st.regs → Ends (code_for t o) st (HoldsComputed t o values)
 narrow_given t n o (x ∷ y ∷ []) st e h = pair_given t n o x y st h
 narrow_given t n o [] st e h = absurd (omega (arith, e))
@@ -137,31 +131,93 @@ few_halves U16 o values = omega arith
 few_halves I32 o values = omega arith
 few_halves U32 o values = omega arith
 
--- a number of 8 or 16 bits, or none
-abbrev IsNarrow : Option IntType → Type 0
-IsNarrow None = Unit {0}
-IsNarrow (Some t) = is_wide t ≡ false
+-- ---- 32 bits
 
-given : (t : Option IntType) (o : Option HelpOp) (values : List ℕ) (outs : ℕ) (st : Registers) → IsNarrow t → OperationFits t o (length values) outs → Hold 12 values st.regs →
+wide_held : {c : Code} {st : Registers} (r : ℕ) → r < 0x100000000 → Ends c st (IsWideNumber r) → Ends c st (λ s. Hold 12 (r % 65536 ∷ r / 65536 ∷ []) s.regs)
+wide_held r lt e = after e (λ s w. let a = w.small in let b = w.small_high in let i = w.is in
+    (w.in_12 ∙ (let z : w.low ≡ r % 65536 = omega (arith, a, b, i) in z), omega arith, (w.in_13 ∙ (let z : w.high ≡ r / 65536 = omega (arith, a, b, i) in z), omega (arith, lt), tt)))
+
+residue_wide : (z : ℤ) → residue 32 z < 0x100000000
+residue_wide (pos a) = omega arith
+residue_wide (negsuc a) = omega arith
+
+small_left : (b : Bool) (m : ℕ) → cond b (m % 0x100000000) 0 < 0x100000000
+small_left true m = omega arith
+small_left false m = omega arith
+
+product_given : (values : List ℕ) (st : Registers) → length values ≡ 4 → Hold 12 values st.regs → Ends (code_for U32 Mul) st (HoldsComputed U32 Mul values)
+product_given (x0 ∷ x1 ∷ y0 ∷ y1 ∷ []) st e h =
+    wide_held ((wide x0 x1 * wide y0 y1) % 0x100000000) (omega arith) (multiply_wide_does st x0 x1 y0 y1 h.0 h.1 h.2.0 h.2.1 h.2.2.0 h.2.2.1 h.2.2.2.0 h.2.2.2.1)
+product_given [] st e h = absurd (omega (arith, e))
+product_given (a ∷ []) st e h = absurd (omega (arith, e))
+product_given (a ∷ b ∷ []) st e h = absurd (omega (arith, e))
+product_given (a ∷ b ∷ c ∷ []) st e h = absurd (omega (arith, e))
+product_given (a ∷ b ∷ c ∷ d ∷ f ∷ more) st e h = absurd (omega (arith, e))
+
+left_given : (values : List ℕ) (st : Registers) → length values ≡ 3 → Hold 12 values st.regs → Ends (code_for U32 Shl) st (HoldsComputed U32 Shl values)
+left_given (x0 ∷ x1 ∷ n ∷ []) st e h =
+    wide_held (shifted_left_wide (wide x0 x1) n) (small_left (nat_lt n 32) (wide x0 x1 * 2 ^ n)) (shift_left_wide_does st x0 x1 n h.0 h.1 h.2.0 h.2.1 h.2.2.0 h.2.2.1)
+left_given [] st e h = absurd (omega (arith, e))
+left_given (a ∷ []) st e h = absurd (omega (arith, e))
+left_given (a ∷ b ∷ []) st e h = absurd (omega (arith, e))
+left_given (a ∷ b ∷ c ∷ d ∷ more) st e h = absurd (omega (arith, e))
+
+right_given : (values : List ℕ) (st : Registers) → length values ≡ 3 → Hold 12 values st.regs → Ends (code_for U32 Shr) st (HoldsComputed U32 Shr values)
+right_given (x0 ∷ x1 ∷ n ∷ []) st e h =
+    let l0 = h.1 in let l1 = h.2.1 in
+    wide_held (operation Shr U32 (wide x0 x1) n) (residue_wide _)
+    (subst (λ r. Ends (code_for U32 Shr) st (IsWideNumber r)) (right_unsigned_wide (wide x0 x1) n (omega (arith, l0, l1))) (shift_right_wide_does false st x0 x1 n h.0 h.1 h.2.0 h.2.1 h.2.2.0 h.2.2.1))
+right_given [] st e h = absurd (omega (arith, e))
+right_given (a ∷ []) st e h = absurd (omega (arith, e))
+right_given (a ∷ b ∷ []) st e h = absurd (omega (arith, e))
+right_given (a ∷ b ∷ c ∷ d ∷ more) st e h = absurd (omega (arith, e))
+
+right_signed_given : (values : List ℕ) (st : Registers) → length values ≡ 3 → Hold 12 values st.regs → Ends (code_for I32 Shr) st (HoldsComputed I32 Shr values)
+right_signed_given (x0 ∷ x1 ∷ n ∷ []) st e h =
+    wide_held (operation Shr I32 (wide x0 x1) n) (residue_wide _)
+    (subst (λ r. Ends (code_for I32 Shr) st (IsWideNumber r)) (right_signed_wide x0 x1 n h.1 h.2.1) (shift_right_wide_does true st x0 x1 n h.0 h.1 h.2.0 h.2.1 h.2.2.0 h.2.2.1))
+right_signed_given [] st e h = absurd (omega (arith, e))
+right_signed_given (a ∷ []) st e h = absurd (omega (arith, e))
+right_signed_given (a ∷ b ∷ []) st e h = absurd (omega (arith, e))
+right_signed_given (a ∷ b ∷ c ∷ d ∷ more) st e h = absurd (omega (arith, e))
+
+wide_given : (o : HelpOp) (values : List ℕ) (st : Registers) → is_covered (Some U32) (Some o) ≡ true → length values ≡ passed_to o U32 → Hold 12 values st.regs → Ends (code_for U32 o) st (HoldsComputed U32 o values)
+wide_given Mul values st covered e h = product_given values st e h
+wide_given Shl values st covered e h = left_given values st e h
+wide_given Shr values st covered e h = right_given values st e h
+wide_given Div values st covered e h = absurd (let z : ⊥ = cc in z)
+wide_given Rem values st covered e h = absurd (let z : ⊥ = cc in z)
+
+wide_signed_given : (o : HelpOp) (values : List ℕ) (st : Registers) → is_covered (Some I32) (Some o) ≡ true → length values ≡ passed_to o I32 → Hold 12 values st.regs → Ends (code_for I32 o) st (HoldsComputed I32 o values)
+wide_signed_given Mul values st covered e h = product_given values st e h
+wide_signed_given Shl values st covered e h = left_given values st e h
+wide_signed_given Shr values st covered e h = right_signed_given values st e h
+wide_signed_given Div values st covered e h = absurd (let z : ⊥ = cc in z)
+wide_signed_given Rem values st covered e h = absurd (let z : ⊥ = cc in z)
+
+-- ---- all
+
+each_given : (t : IntType) (o : HelpOp) (values : List ℕ) (st : Registers) → is_covered (Some t) (Some o) ≡ true → length values ≡ passed_to o t → Hold 12 values st.regs → Ends (code_for t o) st (HoldsComputed t o values)
+each_given I8 o values st covered e h = narrow_given I8 refl o values st (e ∙ two o) h
+each_given U8 o values st covered e h = narrow_given U8 refl o values st (e ∙ two o) h
+each_given I16 o values st covered e h = narrow_given I16 refl o values st (e ∙ two o) h
+each_given U16 o values st covered e h = narrow_given U16 refl o values st (e ∙ two o) h
+each_given I32 o values st covered e h = wide_signed_given o values st covered e h
+each_given U32 o values st covered e h = wide_given o values st covered e h
+
+given : (t : Option IntType) (o : Option HelpOp) (values : List ℕ) (outs : ℕ) (st : Registers) → is_covered t o ≡ true → OperationFits t o (length values) outs → Hold 12 values st.regs →
     Ends (code_of t o) st (λ s. Hold 12 (computed t o values) s.regs) × (length (computed t o values) ≤ 4)
-given (Some t) (Some o) values outs st n fits h = (narrow_given t n o values st (fits.0 ∙ narrow_passed t n o) h, few_halves t o values)
-given None o values outs st n fits h = absurd fits
-given (Some t) None values outs st n fits h = absurd fits
+given (Some t) (Some o) values outs st covered fits h = (each_given t o values st covered fits.0 h, few_halves t o values)
+given None o values outs st covered fits h = absurd fits
+given (Some t) None values outs st covered fits h = absurd fits
 
-narrow_at : (k : ℕ) → k < 4 → IsNarrow (type_at k)
-narrow_at zero lt = refl
-narrow_at (suc zero) lt = refl
-narrow_at (suc (suc zero)) lt = refl
-narrow_at (suc (suc (suc zero))) lt = refl
-narrow_at (suc (suc (suc (suc k)))) lt = absurd (omega (arith, lt))
-
-meets : (c : MidCode) (h : ℕ) → h < 32 → Meets (code_at h) (IsPassed c h) (helped c h)
-meets c h lt values takes st words held =
+meets : (c : MidCode) (h : ℕ) → h < 48 → is_covered (type_at (h / 8)) (operation_at (h % 8)) ≡ true → Meets (code_at h) (IsPassed c h) (helped c h)
+meets c h lt covered values takes st words held =
     let t : nat_lt h first_check ≡ true = grind (arith, nat_tests) in
     let fits : OperationFits (type_at (h / 8)) (operation_at (h % 8)) (length values) takes.0 = subst (λ b. KindFits b (length c.checks) h (length values) takes.0) t takes.1 in
-    let g = given (type_at (h / 8)) (operation_at (h % 8)) values takes.0 st (narrow_at (h / 8) (omega (arith, lt))) fits held in
+    let g = given (type_at (h / 8)) (operation_at (h % 8)) values takes.0 st covered fits held in
     record { bounded = g.0.bounded; given = computed (type_at (h / 8)) (operation_at (h % 8)) values; few = g.1; some = rw t refl; held = g.0.after }
 
 pub routines_are_routines : RoutinesAreRoutines
-routines_are_routines c image data_end marks entries out laid f h lt objects inside written unmarked is_even small =
-    code_is_routine (code_at h) (is_code (type_at (h / 8)) (operation_at (h % 8))) (IsPassed c h) (helped c h) (meets c h lt) image data_end marks entries out laid f inside written unmarked objects is_even small
+routines_are_routines c image data_end marks entries out laid f h lt covered objects inside written unmarked is_even small =
+    code_is_routine (code_at h) (is_code (type_at (h / 8)) (operation_at (h % 8))) (IsPassed c h) (helped c h) (meets c h lt covered) image data_end marks entries out laid f inside written unmarked objects is_even small

@@ -3,3 +3,4 @@ pub mod Routines
 pub mod Rows
 pub mod Laws
 pub mod Pieces
+pub mod Emitted

@@ -110,8 +110,11 @@ narrow c = all (c ∷ low_byte 12 ∷ [])
 abbrev pub narrow_right : (is_signed : Bool) → Code
 narrow_right is_signed = narrow (all (extend is_signed 12 ∷ shift_right is_signed ∷ []))
 
+abbrev pub extended_both : (is_signed : Bool) → Code → Code
+extended_both is_signed c = all (extend is_signed 12 ∷ extend is_signed 13 ∷ c ∷ [])
+
 abbrev pub narrow_division : (is_signed : Bool) → Code → Code
-narrow_division is_signed c = narrow (all (extend is_signed 12 ∷ extend is_signed 13 ∷ c ∷ []))
+narrow_division is_signed c = narrow (extended_both is_signed c)
 
 -- ---- 32 bits: x in R12 and R13, y in R14 and R15, or the count in R14
 
@@ -171,12 +174,16 @@ is_signed I16 = true
 is_signed I32 = true
 is_signed _ = false
 
+-- on words, before the low byte is taken
+abbrev pub byte_part : (is_signed : Bool) → HelpOp → Code
+byte_part s Mul = multiply
+byte_part s Div = extended_both s (quotient s)
+byte_part s Rem = extended_both s (remainder s)
+byte_part s Shl = shift_left
+byte_part s Shr = all (extend s 12 ∷ shift_right s ∷ [])
+
 abbrev pub byte_code : (is_signed : Bool) → HelpOp → Code
-byte_code s Mul = narrow multiply
-byte_code s Div = narrow_division s (quotient s)
-byte_code s Rem = narrow_division s (remainder s)
-byte_code s Shl = narrow shift_left
-byte_code s Shr = narrow_right s
+byte_code s o = narrow (byte_part s o)
 
 abbrev pub word_code : (is_signed : Bool) → HelpOp → Code
 word_code s Mul = multiply

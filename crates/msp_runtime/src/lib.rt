@@ -1,12 +1,16 @@
 //! The routines that compiled code calls: multiplication, division, shifts and the checks of pointers.
 #![tactic(auto)]
 
+mod bytes;
 mod instructions;
 mod laws;
+mod operations;
 mod put;
+mod routines;
 mod rows;
 mod wide;
 mod words;
 
 pub use laws::routines_are_routines;
+pub use routines::{OPERATIONS, operation_routines};
 pub use rows::worked_rows;

@@ -1,6 +1,6 @@
 //! The pieces of routines of 32 bits, with x in R12 and R13, and y in R14 and R15 or a count in R14.
 
-ghost use Rattle.std.specs.Prelude.{◌≡◌, ◌++◌, OnOk, map};
+ghost use Rattle.std.specs.Prelude.{◌≡◌, ◌++◌, OnOk, map, true, false};
 ghost use Rattle.msp_runtime.specs.Code.{items_from};
 ghost use Rattle.msp_runtime.specs.Pieces.{shifted};
 ghost use Rattle.msp_runtime.specs.Routines as routines;
@@ -60,26 +60,54 @@ pub(crate) fn put_right_turns_wide(items: &mut Vec<Item>, first: u32) -> Result<
 }
 
 /// x shifted right, in R12 and R13.
-pub(crate) fn put_shift_right_wide(items: &mut Vec<Item>, is_signed: bool) -> Result<(), NoMemory>
-    ensures { OnOk result (items.new.items ≡ items.old.items ++ items_from (routines.shift_right_wide is_signed) 0) }
+pub(crate) fn put_shift_right_wide(items: &mut Vec<Item>) -> Result<(), NoMemory>
+    ensures { OnOk result (items.new.items ≡ items.old.items ++ items_from (routines.shift_right_wide false) 0) }
 {
-    put(items, 0, &[push!(10), push!(11)])?;
-    if is_signed {
-        put(items, 0, &[
-            two!(Mov, made 0, 10),
-            two!(Cmp, number 0x8000, 13),
-            jump!(Jnc, 0),
-            two!(Mov, made 0xFFFF, 10),
-            Item::Label(0),
-        ])?;
-        put_right_turns_wide(items, 1)?;
-    } else {
-        put(items, 0, &[
-            two!(Mov, made 0, 10),
-        ])?;
-        put_right_turns_wide(items, 0)?;
-    }
     put(items, 0, &[
+        push!(10),
+        push!(11),
+        two!(Mov, made 0, 10),
+    ])?;
+    put_right_turns_wide(items, 0)?;
+    put(items, 0, &[
+        restore!(11),
+        DROP,
+        restore!(10),
+        DROP,
+    ])
+}
+
+/// x with its sign shifted right, in R12 and R13.
+pub(crate) fn put_shift_right_signed_wide(items: &mut Vec<Item>) -> Result<(), NoMemory>
+    ensures { OnOk result (items.new.items ≡ items.old.items ++ items_from (routines.shift_right_wide true) 0) }
+{
+    put(items, 0, &[
+        push!(10),
+        push!(11),
+        two!(Mov, made 0, 10),
+        two!(Cmp, number 0x8000, 13),
+        jump!(Jnc, 0),
+        two!(Mov, made 0xFFFF, 10),
+        Item::Label(0),
+        two!(Mov, reg 10, 11),
+        two!(Cmp, number 32, 14),
+        jump!(Jnc, 1),
+        two!(Mov, number 32, 14),
+        Item::Label(1),
+        two!(Mov, number 32, 15),
+        two!(Sub, reg 14, 15),
+        two!(Cmp, made 0, 15),
+        jump!(Jeq, 2),
+        Item::Label(3),
+        two!(Add, reg 12, 12),
+        two!(Addc, reg 13, 13),
+        two!(Addc, reg 10, 10),
+        two!(Addc, reg 11, 11),
+        two!(Sub, made 1, 15),
+        jump!(Jne, 3),
+        Item::Label(2),
+        two!(Mov, reg 10, 12),
+        two!(Mov, reg 11, 13),
         restore!(11),
         DROP,
         restore!(10),
@@ -164,21 +192,25 @@ pub(crate) fn put_divide_wide(items: &mut Vec<Item>, first: u32) -> Result<(), N
 }
 
 /// x divided by y, in R12 and R13.
-pub(crate) fn put_quotient_wide(items: &mut Vec<Item>, is_signed: bool) -> Result<(), NoMemory>
-    ensures { OnOk result (items.new.items ≡ items.old.items ++ items_from (routines.quotient_wide is_signed) 0) }
+pub(crate) fn put_quotient_wide(items: &mut Vec<Item>) -> Result<(), NoMemory>
+    ensures { OnOk result (items.new.items ≡ items.old.items ++ items_from (routines.quotient_wide false) 0) }
 {
-    if !is_signed {
-        put(items, 0, &[push!(9), push!(10), push!(11)])?;
-        put_divide_wide(items, 0)?;
-        return put(items, 0, &[
-            restore!(11),
-            DROP,
-            restore!(10),
-            DROP,
-            restore!(9),
-            DROP,
-        ]);
-    }
+    put(items, 0, &[push!(9), push!(10), push!(11)])?;
+    put_divide_wide(items, 0)?;
+    put(items, 0, &[
+        restore!(11),
+        DROP,
+        restore!(10),
+        DROP,
+        restore!(9),
+        DROP,
+    ])
+}
+
+/// x divided by y with their signs, in R12 and R13.
+pub(crate) fn put_quotient_signed_wide(items: &mut Vec<Item>) -> Result<(), NoMemory>
+    ensures { OnOk result (items.new.items ≡ items.old.items ++ items_from (routines.quotient_wide true) 0) }
+{
     put(items, 0, &[
         push!(8),
         push!(9),
@@ -205,9 +237,38 @@ pub(crate) fn put_quotient_wide(items: &mut Vec<Item>, is_signed: bool) -> Resul
         two!(Mov, reg 11, 15),
         two!(Add, made 1, 8),
         Item::Label(1),
-    ])?;
-    put_divide_wide(items, 2)?;
-    put(items, 0, &[
+        two!(Mov, reg 14, 9),
+        two!(Bis, reg 15, 9),
+        two!(Cmp, made 1, 9),
+        jump!(Jc, 2),
+        two!(Mov, made 0, 12),
+        two!(Mov, made 0, 13),
+        two!(Mov, made 1, 14),
+        Item::Label(2),
+        two!(Mov, made 0, 10),
+        two!(Mov, made 0, 11),
+        two!(Mov, number 32, 9),
+        two!(Cmp, made 0, 9),
+        jump!(Jeq, 3),
+        Item::Label(4),
+        two!(Add, reg 12, 12),
+        two!(Addc, reg 13, 13),
+        two!(Addc, reg 10, 10),
+        two!(Addc, reg 11, 11),
+        jump!(Jc, 5),
+        two!(Cmp, reg 15, 11),
+        jump!(Jne, 6),
+        two!(Cmp, reg 14, 10),
+        Item::Label(6),
+        Item::Label(5),
+        jump!(Jnc, 7),
+        two!(Sub, reg 14, 10),
+        two!(Subc, reg 15, 11),
+        two!(Add, made 1, 12),
+        Item::Label(7),
+        two!(Sub, made 1, 9),
+        jump!(Jne, 4),
+        Item::Label(3),
         two!(Cmp, made 1, 8),
         jump!(Jne, 8),
         two!(Mov, made 0, 10),
@@ -228,24 +289,28 @@ pub(crate) fn put_quotient_wide(items: &mut Vec<Item>, is_signed: bool) -> Resul
     ])
 }
 
-/// What remains of x, in R12 and R13, with the sign of x.
-pub(crate) fn put_remainder_wide(items: &mut Vec<Item>, is_signed: bool) -> Result<(), NoMemory>
-    ensures { OnOk result (items.new.items ≡ items.old.items ++ items_from (routines.remainder_wide is_signed) 0) }
+/// What remains of x, in R12 and R13.
+pub(crate) fn put_remainder_wide(items: &mut Vec<Item>) -> Result<(), NoMemory>
+    ensures { OnOk result (items.new.items ≡ items.old.items ++ items_from (routines.remainder_wide false) 0) }
 {
-    if !is_signed {
-        put(items, 0, &[push!(9), push!(10), push!(11)])?;
-        put_divide_wide(items, 0)?;
-        return put(items, 0, &[
-            two!(Mov, reg 10, 12),
-            two!(Mov, reg 11, 13),
-            restore!(11),
-            DROP,
-            restore!(10),
-            DROP,
-            restore!(9),
-            DROP,
-        ]);
-    }
+    put(items, 0, &[push!(9), push!(10), push!(11)])?;
+    put_divide_wide(items, 0)?;
+    put(items, 0, &[
+        two!(Mov, reg 10, 12),
+        two!(Mov, reg 11, 13),
+        restore!(11),
+        DROP,
+        restore!(10),
+        DROP,
+        restore!(9),
+        DROP,
+    ])
+}
+
+/// What remains of x, in R12 and R13, with the sign of x.
+pub(crate) fn put_remainder_signed_wide(items: &mut Vec<Item>) -> Result<(), NoMemory>
+    ensures { OnOk result (items.new.items ≡ items.old.items ++ items_from (routines.remainder_wide true) 0) }
+{
     put(items, 0, &[
         push!(8),
         push!(9),
@@ -271,9 +336,38 @@ pub(crate) fn put_remainder_wide(items: &mut Vec<Item>, is_signed: bool) -> Resu
         two!(Mov, reg 10, 14),
         two!(Mov, reg 11, 15),
         Item::Label(1),
-    ])?;
-    put_divide_wide(items, 2)?;
-    put(items, 0, &[
+        two!(Mov, reg 14, 9),
+        two!(Bis, reg 15, 9),
+        two!(Cmp, made 1, 9),
+        jump!(Jc, 2),
+        two!(Mov, made 0, 12),
+        two!(Mov, made 0, 13),
+        two!(Mov, made 1, 14),
+        Item::Label(2),
+        two!(Mov, made 0, 10),
+        two!(Mov, made 0, 11),
+        two!(Mov, number 32, 9),
+        two!(Cmp, made 0, 9),
+        jump!(Jeq, 3),
+        Item::Label(4),
+        two!(Add, reg 12, 12),
+        two!(Addc, reg 13, 13),
+        two!(Addc, reg 10, 10),
+        two!(Addc, reg 11, 11),
+        jump!(Jc, 5),
+        two!(Cmp, reg 15, 11),
+        jump!(Jne, 6),
+        two!(Cmp, reg 14, 10),
+        Item::Label(6),
+        Item::Label(5),
+        jump!(Jnc, 7),
+        two!(Sub, reg 14, 10),
+        two!(Subc, reg 15, 11),
+        two!(Add, made 1, 12),
+        Item::Label(7),
+        two!(Sub, made 1, 9),
+        jump!(Jne, 4),
+        Item::Label(3),
         two!(Mov, reg 10, 12),
         two!(Mov, reg 11, 13),
         two!(Cmp, made 1, 8),

@@ -1,6 +1,6 @@
 //! The pieces of routines of 16 bits, with x in R12, and y or a count in R13.
 
-ghost use Rattle.std.specs.Prelude.{◌≡◌, ◌++◌, OnOk, map};
+ghost use Rattle.std.specs.Prelude.{◌≡◌, ◌++◌, OnOk, map, true, false};
 ghost use Rattle.msp_runtime.specs.Code.{items_from};
 ghost use Rattle.msp_runtime.specs.Pieces.{shifted};
 ghost use Rattle.msp_runtime.specs.Routines as routines;
@@ -54,23 +54,27 @@ pub(crate) fn put_right_turns(items: &mut Vec<Item>, first: u32) -> Result<(), N
 }
 
 /// x shifted right, in R12.
-pub(crate) fn put_shift_right(items: &mut Vec<Item>, is_signed: bool) -> Result<(), NoMemory>
-    ensures { OnOk result (items.new.items ≡ items.old.items ++ items_from (routines.shift_right is_signed) 0) }
+pub(crate) fn put_shift_right(items: &mut Vec<Item>) -> Result<(), NoMemory>
+    ensures { OnOk result (items.new.items ≡ items.old.items ++ items_from (routines.shift_right false) 0) }
 {
-    if is_signed {
-        put(items, 0, &[
-            two!(Mov, made 0, 14),
-            two!(Cmp, number 0x8000, 12),
-            jump!(Jnc, 0),
-            two!(Mov, made 0xFFFF, 14),
-            Item::Label(0),
-        ])?;
-        return put_right_turns(items, 1);
-    }
     put(items, 0, &[
         two!(Mov, made 0, 14),
     ])?;
     put_right_turns(items, 0)
+}
+
+/// x with its sign shifted right, in R12.
+pub(crate) fn put_shift_right_signed(items: &mut Vec<Item>) -> Result<(), NoMemory>
+    ensures { OnOk result (items.new.items ≡ items.old.items ++ items_from (routines.shift_right true) 0) }
+{
+    put(items, 0, &[
+        two!(Mov, made 0, 14),
+        two!(Cmp, number 0x8000, 12),
+        jump!(Jnc, 0),
+        two!(Mov, made 0xFFFF, 14),
+        Item::Label(0),
+    ])?;
+    put_right_turns(items, 1)
 }
 
 /// x times y, in R12.
@@ -126,12 +130,17 @@ pub(crate) fn put_divide(items: &mut Vec<Item>, first: u32) -> Result<(), NoMemo
 }
 
 /// x divided by y, in R12.
-pub(crate) fn put_quotient(items: &mut Vec<Item>, is_signed: bool) -> Result<(), NoMemory>
-    ensures { OnOk result (items.new.items ≡ items.old.items ++ items_from (routines.quotient is_signed) 0) }
+pub(crate) fn put_quotient(items: &mut Vec<Item>) -> Result<(), NoMemory>
+    ensures { OnOk result (items.new.items ≡ items.old.items ++ items_from (routines.quotient false) 0) }
 {
-    if !is_signed {
-        return put_divide(items, 0);
-    }
+    put_divide(items, 0)?;
+    Ok(())
+}
+
+/// x divided by y with their signs, in R12.
+pub(crate) fn put_quotient_signed(items: &mut Vec<Item>) -> Result<(), NoMemory>
+    ensures { OnOk result (items.new.items ≡ items.old.items ++ items_from (routines.quotient true) 0) }
+{
     put(items, 0, &[
         push!(11),
         two!(Mov, made 0, 11),
@@ -163,14 +172,18 @@ pub(crate) fn put_quotient(items: &mut Vec<Item>, is_signed: bool) -> Result<(),
     ])
 }
 
-/// What remains of x, in R12, with the sign of x.
-pub(crate) fn put_remainder(items: &mut Vec<Item>, is_signed: bool) -> Result<(), NoMemory>
-    ensures { OnOk result (items.new.items ≡ items.old.items ++ items_from (routines.remainder is_signed) 0) }
+/// What remains of x, in R12.
+pub(crate) fn put_remainder(items: &mut Vec<Item>) -> Result<(), NoMemory>
+    ensures { OnOk result (items.new.items ≡ items.old.items ++ items_from (routines.remainder false) 0) }
 {
-    if !is_signed {
-        put_divide(items, 0)?;
-        return put(items, 0, &[two!(Mov, reg 14, 12)]);
-    }
+    put_divide(items, 0)?;
+    put(items, 0, &[two!(Mov, reg 14, 12)])
+}
+
+/// What remains of x, in R12, with the sign of x.
+pub(crate) fn put_remainder_signed(items: &mut Vec<Item>) -> Result<(), NoMemory>
+    ensures { OnOk result (items.new.items ≡ items.old.items ++ items_from (routines.remainder true) 0) }
+{
     put(items, 0, &[
         push!(11),
         two!(Mov, made 0, 11),
@@ -209,34 +222,42 @@ pub(crate) fn put_low_byte(items: &mut Vec<Item>) -> Result<(), NoMemory>
     put(items, 0, &[two!(And, number 255, 12)])
 }
 
-/// The byte in R12 as a word.
-pub(crate) fn put_extend_x(items: &mut Vec<Item>, is_signed: bool) -> Result<(), NoMemory>
-    ensures { OnOk result (items.new.items ≡ items.old.items ++ items_from (routines.extend is_signed 12) 0) }
+/// The low byte of x as a word.
+pub(crate) fn put_extend_x(items: &mut Vec<Item>) -> Result<(), NoMemory>
+    ensures { OnOk result (items.new.items ≡ items.old.items ++ items_from (routines.extend false 12) 0) }
 {
-    if is_signed {
-        return put(items, 0, &[
-            two!(Add, number 128, 12),
-            two!(And, number 255, 12),
-            two!(Sub, number 128, 12),
-        ]);
-    }
     put(items, 0, &[
         two!(And, number 255, 12),
     ])
 }
 
-/// The byte in R13 as a word.
-pub(crate) fn put_extend_y(items: &mut Vec<Item>, is_signed: bool) -> Result<(), NoMemory>
-    ensures { OnOk result (items.new.items ≡ items.old.items ++ items_from (routines.extend is_signed 13) 0) }
+/// The low byte of x with its sign as a word.
+pub(crate) fn put_extend_x_signed(items: &mut Vec<Item>) -> Result<(), NoMemory>
+    ensures { OnOk result (items.new.items ≡ items.old.items ++ items_from (routines.extend true 12) 0) }
 {
-    if is_signed {
-        return put(items, 0, &[
-            two!(Add, number 128, 13),
-            two!(And, number 255, 13),
-            two!(Sub, number 128, 13),
-        ]);
-    }
+    put(items, 0, &[
+        two!(Add, number 128, 12),
+        two!(And, number 255, 12),
+        two!(Sub, number 128, 12),
+    ])
+}
+
+/// The low byte of y as a word.
+pub(crate) fn put_extend_y(items: &mut Vec<Item>) -> Result<(), NoMemory>
+    ensures { OnOk result (items.new.items ≡ items.old.items ++ items_from (routines.extend false 13) 0) }
+{
     put(items, 0, &[
         two!(And, number 255, 13),
+    ])
+}
+
+/// The low byte of y with its sign as a word.
+pub(crate) fn put_extend_y_signed(items: &mut Vec<Item>) -> Result<(), NoMemory>
+    ensures { OnOk result (items.new.items ≡ items.old.items ++ items_from (routines.extend true 13) 0) }
+{
+    put(items, 0, &[
+        two!(Add, number 128, 13),
+        two!(And, number 255, 13),
+        two!(Sub, number 128, 13),
     ])
 }
