@@ -40,16 +40,16 @@ below_half bits behind quotient p lt lq e = let m = mul-le (suc bits) behind p b
 top_one : (b behind quotient p : ℕ) → p * behind ≡ 0x8000 → (p + b) * behind + quotient ≡ 0x8000 + (b * behind + quotient)
 top_one b behind quotient p e = omega (arith, e)
 
-twice : (b behind quotient n : ℕ) → n ≡ b * behind + quotient → n + n ≡ b * (behind + behind) + (quotient + quotient)
+pub twice : (b behind quotient n : ℕ) → n ≡ b * behind + quotient → n + n ≡ b * (behind + behind) + (quotient + quotient)
 twice b behind quotient n e = omega (arith, e)
 
-carried : (x m r p c b : ℕ) → x ≡ (m + r) * (p * 2) + (c * p + b) → x ≡ (m + m + (r + r + c)) * p + b
+pub carried : (x m r p c b : ℕ) → x ≡ (m + r) * (p * 2) + (c * p + b) → x ≡ (m + m + (r + r + c)) * p + b
 carried x m r p c b e = omega (arith, e)
 
-less_again : (x m q d t p b : ℕ) → m ≡ d * q → x ≡ (m + m + t) * p + b → x ≡ (d * (q + q) + t) * p + b
+pub less_again : (x m q d t p b : ℕ) → m ≡ d * q → x ≡ (m + m + t) * p + b → x ≡ (d * (q + q) + t) * p + b
 less_again x m q d t p b e f = let g : m + m ≡ d * (q + q) = omega (arith, e) in f ∙ ap (λ n. (n + t) * p + b) g
 
-taken_off : (x m q d t p b : ℕ) → m ≡ d * q → d ≤ t → x ≡ (m + m + t) * p + b → x ≡ (d * (q + q + 1) + (t - d)) * p + b
+pub taken_off : (x m q d t p b : ℕ) → m ≡ d * q → d ≤ t → x ≡ (m + m + t) * p + b → x ≡ (d * (q + q + 1) + (t - d)) * p + b
 taken_off x m q d t p b e le f = let g : m + m + t ≡ d * (q + q + 1) + (t - d) = omega (arith, e, le) in f ∙ ap (λ n. n * p + b) g
 
 -- ---- a turn
@@ -152,7 +152,7 @@ remainder_of x d = cond (d == 0) 0 (x % d)
 abbrev pub IsDivided : (x d : ℕ) → Registers → Type 0
 IsDivided x d s = (s.regs 12 ≡ quotient_of x d) × (s.regs 14 ≡ remainder_of x d)
 
-divided : (x d q r : ℕ) → r < d → x ≡ d * q + r → (q ≡ x / d) × (r ≡ x % d)
+pub divided : (x d q r : ℕ) → r < d → x ≡ d * q + r → (q ≡ x / d) × (r ≡ x % d)
 divided x d q r lt e = let f : x ≡ q * d + r = omega (arith, e) in (sym (ap (λ n. n / d) f ∙ div-mul-add q d r lt), sym (ap (λ n. n % d) f ∙ mod-mul-add q d r lt))
 
 -- by a divisor that is not 0

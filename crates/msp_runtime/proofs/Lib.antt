@@ -12,5 +12,6 @@ pub mod Narrow
 pub mod Meets
 pub mod WideProducts
 pub mod WideShifts
+pub mod WideDivide
 pub mod Numbers
 pub mod WorkedRows

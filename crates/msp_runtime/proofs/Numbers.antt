@@ -19,6 +19,7 @@ use Rattle.msp_runtime.proofs.Meets.{HoldsNumber, after, byte_signed, byte_unsig
 use Rattle.msp_runtime.proofs.Returning.{Gives, Meets}
 use Rattle.msp_runtime.proofs.Steps.{Ends, nothing}
 use Rattle.msp_runtime.proofs.WideProducts.{IsWideNumber, multiply_wide_does, shift_left_wide_does, shifted_left_wide, wide}
+use Rattle.msp_runtime.proofs.WideDivide.{divide_wide_does}
 use Rattle.msp_runtime.proofs.WideShifts.{right_signed_wide, right_unsigned_wide, shift_right_wide_does}
 
 -- ---- what is so of all code

@@ -182,7 +182,7 @@ pub record Rising (result k : ℕ) (regs : ℕ → ℕ) : Type 0 where
   pub goal : ((wide a b + 0x100000000 * wide c d) * 2 ^ k / 0x100000000) % 0x100000000 ≡ result
 
 -- C behind ADDC
-carry_addc : (sr a c a' c' : ℕ) → a ≡ a' → sr % 2 ≡ c' → a' < 0x10000 → c' ≤ 1 → (operate op2.Addc false sr a a).sr % 2 ≡ (a' + a' + c') / 0x10000
+pub carry_addc : (sr a c a' c' : ℕ) → a ≡ a' → sr % 2 ≡ c' → a' < 0x10000 → c' ≤ 1 → (operate op2.Addc false sr a a).sr % 2 ≡ (a' + a' + c') / 0x10000
 carry_addc sr a c a' c' e f la lc = carry_out sr (a + a + sr % 2) _ _ _ (omega (arith, e, f, la, lc)) ∙ ap (λ n. n / 0x10000) (sum_carried a a (sr % 2) a' a' c' e e f)
 
 pub right_turn : (result j : ℕ) (s : Registers) → Rising result (suc j) s.regs → Ends (all (add 12 12 ∷ add_carry 13 13 ∷ add_carry 10 10 ∷ add_carry 11 11 ∷ [])) s (λ s'. Rising result j (done op2.Sub (Made 1) 15 s').regs)
