@@ -81,7 +81,7 @@ right_signed x n lx ln = rw (signed_word x lx) (by (nat_le 0x8000 x) (nat_le 16 
 
 -- ---- quotients and remainders
 
-zero_word : (y : ℕ) → int_eq (pos y) (pos 0) ≡ (y == 0)
+pub zero_word : (y : ℕ) → int_eq (pos y) (pos 0) ≡ (y == 0)
 zero_word y = let d = Decides-eqb y 0 in sym (same_from_decides (y == 0) (int_eq (pos y) (pos 0)) ((λ h. ap pos (d.0 h)), (λ h. d.1 (ap unsigned_abs h))) (Decides-int_eq (pos y) (pos 0)))
 
 pub quotient_unsigned : (x y : ℕ) → x < 0x10000 → y < 0x10000 → quotient_of x y ≡ residue 16 (unless_zero (wrapped U16 (pos y)) (int_div (wrapped U16 (pos x)) (wrapped U16 (pos y))))

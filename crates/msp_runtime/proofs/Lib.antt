@@ -13,5 +13,7 @@ pub mod Meets
 pub mod WideProducts
 pub mod WideShifts
 pub mod WideDivide
+pub mod GivenWide
+pub mod WideSigned
 pub mod Numbers
 pub mod WorkedRows

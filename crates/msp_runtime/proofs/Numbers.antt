@@ -13,13 +13,14 @@ use Rattle.mid_code.specs.Help.{computed, first_check, helped, is_wide, operatio
 use Rattle.msp_select.specs.Routine.{Hold, IsPassed}
 use Rattle.msp_runtime.specs.Code.{Code, Registers, IsBounded}
 use Rattle.msp_runtime.specs.Routines.{code_at, code_for, code_of}
-use Rattle.msp_runtime.specs.Laws.{RoutinesAreRoutines, is_covered}
+use Rattle.msp_runtime.specs.Laws.{RoutinesAreRoutines}
 use Rattle.msp_runtime.proofs.Laid.{IsRoutineCode, code_is_routine}
 use Rattle.msp_runtime.proofs.Meets.{HoldsNumber, after, byte_signed, byte_unsigned, residue_small, word_signed, word_unsigned}
 use Rattle.msp_runtime.proofs.Returning.{Gives, Meets}
 use Rattle.msp_runtime.proofs.Steps.{Ends, nothing}
 use Rattle.msp_runtime.proofs.WideProducts.{IsWideNumber, multiply_wide_does, shift_left_wide_does, shifted_left_wide, wide}
-use Rattle.msp_runtime.proofs.WideDivide.{divide_wide_does}
+use Rattle.msp_runtime.proofs.GivenWide.{quotient_signed_wide, quotient_unsigned_wide, remainder_signed_wide, remainder_unsigned_wide}
+use Rattle.msp_runtime.proofs.WideSigned.{quotient_signed_wide_does, quotient_wide_does, remainder_signed_wide_does, remainder_wide_does}
 use Rattle.msp_runtime.proofs.WideShifts.{right_signed_wide, right_unsigned_wide, shift_right_wide_does}
 
 -- ---- what is so of all code
@@ -182,43 +183,87 @@ right_signed_given (a ∷ []) st e h = absurd (omega (arith, e))
 right_signed_given (a ∷ b ∷ []) st e h = absurd (omega (arith, e))
 right_signed_given (a ∷ b ∷ c ∷ d ∷ more) st e h = absurd (omega (arith, e))
 
-wide_given : (o : HelpOp) (values : List ℕ) (st : Registers) → is_covered (Some U32) (Some o) ≡ true → length values ≡ passed_to o U32 → Hold 12 values st.regs → Ends (code_for U32 o) st (HoldsComputed U32 o values)
-wide_given Mul values st covered e h = product_given values st e h
-wide_given Shl values st covered e h = left_given values st e h
-wide_given Shr values st covered e h = right_given values st e h
-wide_given Div values st covered e h = absurd (let z : ⊥ = cc in z)
-wide_given Rem values st covered e h = absurd (let z : ⊥ = cc in z)
+quotient_given : (values : List ℕ) (st : Registers) → length values ≡ 4 → Hold 12 values st.regs → Ends (code_for U32 Div) st (HoldsComputed U32 Div values)
+quotient_given (x0 ∷ x1 ∷ y0 ∷ y1 ∷ []) st e h =
+    let l0 = h.1 in let l1 = h.2.1 in let l2 = h.2.2.1 in let l3 = h.2.2.2.1 in
+    wide_held (operation Div U32 (wide x0 x1) (wide y0 y1)) (residue_wide _)
+    (subst (λ r. Ends (code_for U32 Div) st (IsWideNumber r)) (quotient_unsigned_wide (wide x0 x1) (wide y0 y1) (omega (arith, l0, l1)) (omega (arith, l2, l3))) (quotient_wide_does st x0 x1 y0 y1 h.0 h.1 h.2.0 h.2.1 h.2.2.0 h.2.2.1 h.2.2.2.0 h.2.2.2.1))
+quotient_given [] st e h = absurd (omega (arith, e))
+quotient_given (a ∷ []) st e h = absurd (omega (arith, e))
+quotient_given (a ∷ b ∷ []) st e h = absurd (omega (arith, e))
+quotient_given (a ∷ b ∷ c ∷ []) st e h = absurd (omega (arith, e))
+quotient_given (a ∷ b ∷ c ∷ d ∷ f ∷ more) st e h = absurd (omega (arith, e))
 
-wide_signed_given : (o : HelpOp) (values : List ℕ) (st : Registers) → is_covered (Some I32) (Some o) ≡ true → length values ≡ passed_to o I32 → Hold 12 values st.regs → Ends (code_for I32 o) st (HoldsComputed I32 o values)
-wide_signed_given Mul values st covered e h = product_given values st e h
-wide_signed_given Shl values st covered e h = left_given values st e h
-wide_signed_given Shr values st covered e h = right_signed_given values st e h
-wide_signed_given Div values st covered e h = absurd (let z : ⊥ = cc in z)
-wide_signed_given Rem values st covered e h = absurd (let z : ⊥ = cc in z)
+remainder_given : (values : List ℕ) (st : Registers) → length values ≡ 4 → Hold 12 values st.regs → Ends (code_for U32 Rem) st (HoldsComputed U32 Rem values)
+remainder_given (x0 ∷ x1 ∷ y0 ∷ y1 ∷ []) st e h =
+    let l0 = h.1 in let l1 = h.2.1 in let l2 = h.2.2.1 in let l3 = h.2.2.2.1 in
+    wide_held (operation Rem U32 (wide x0 x1) (wide y0 y1)) (residue_wide _)
+    (subst (λ r. Ends (code_for U32 Rem) st (IsWideNumber r)) (remainder_unsigned_wide (wide x0 x1) (wide y0 y1) (omega (arith, l0, l1)) (omega (arith, l2, l3))) (remainder_wide_does st x0 x1 y0 y1 h.0 h.1 h.2.0 h.2.1 h.2.2.0 h.2.2.1 h.2.2.2.0 h.2.2.2.1))
+remainder_given [] st e h = absurd (omega (arith, e))
+remainder_given (a ∷ []) st e h = absurd (omega (arith, e))
+remainder_given (a ∷ b ∷ []) st e h = absurd (omega (arith, e))
+remainder_given (a ∷ b ∷ c ∷ []) st e h = absurd (omega (arith, e))
+remainder_given (a ∷ b ∷ c ∷ d ∷ f ∷ more) st e h = absurd (omega (arith, e))
+
+quotient_signed_given : (values : List ℕ) (st : Registers) → length values ≡ 4 → Hold 12 values st.regs → Ends (code_for I32 Div) st (HoldsComputed I32 Div values)
+quotient_signed_given (x0 ∷ x1 ∷ y0 ∷ y1 ∷ []) st e h =
+    let l0 = h.1 in let l1 = h.2.1 in let l2 = h.2.2.1 in let l3 = h.2.2.2.1 in
+    wide_held (operation Div I32 (wide x0 x1) (wide y0 y1)) (residue_wide _)
+    (subst (λ r. Ends (code_for I32 Div) st (IsWideNumber r)) (quotient_signed_wide (wide x0 x1) (wide y0 y1) (omega (arith, l0, l1)) (omega (arith, l2, l3))) (quotient_signed_wide_does st x0 x1 y0 y1 h.0 h.1 h.2.0 h.2.1 h.2.2.0 h.2.2.1 h.2.2.2.0 h.2.2.2.1))
+quotient_signed_given [] st e h = absurd (omega (arith, e))
+quotient_signed_given (a ∷ []) st e h = absurd (omega (arith, e))
+quotient_signed_given (a ∷ b ∷ []) st e h = absurd (omega (arith, e))
+quotient_signed_given (a ∷ b ∷ c ∷ []) st e h = absurd (omega (arith, e))
+quotient_signed_given (a ∷ b ∷ c ∷ d ∷ f ∷ more) st e h = absurd (omega (arith, e))
+
+remainder_signed_given : (values : List ℕ) (st : Registers) → length values ≡ 4 → Hold 12 values st.regs → Ends (code_for I32 Rem) st (HoldsComputed I32 Rem values)
+remainder_signed_given (x0 ∷ x1 ∷ y0 ∷ y1 ∷ []) st e h =
+    let l0 = h.1 in let l1 = h.2.1 in let l2 = h.2.2.1 in let l3 = h.2.2.2.1 in
+    wide_held (operation Rem I32 (wide x0 x1) (wide y0 y1)) (residue_wide _)
+    (subst (λ r. Ends (code_for I32 Rem) st (IsWideNumber r)) (remainder_signed_wide (wide x0 x1) (wide y0 y1) (omega (arith, l0, l1)) (omega (arith, l2, l3))) (remainder_signed_wide_does st x0 x1 y0 y1 h.0 h.1 h.2.0 h.2.1 h.2.2.0 h.2.2.1 h.2.2.2.0 h.2.2.2.1))
+remainder_signed_given [] st e h = absurd (omega (arith, e))
+remainder_signed_given (a ∷ []) st e h = absurd (omega (arith, e))
+remainder_signed_given (a ∷ b ∷ []) st e h = absurd (omega (arith, e))
+remainder_signed_given (a ∷ b ∷ c ∷ []) st e h = absurd (omega (arith, e))
+remainder_signed_given (a ∷ b ∷ c ∷ d ∷ f ∷ more) st e h = absurd (omega (arith, e))
+
+wide_given : (o : HelpOp) (values : List ℕ) (st : Registers) → length values ≡ passed_to o U32 → Hold 12 values st.regs → Ends (code_for U32 o) st (HoldsComputed U32 o values)
+wide_given Mul values st e h = product_given values st e h
+wide_given Shl values st e h = left_given values st e h
+wide_given Shr values st e h = right_given values st e h
+wide_given Div values st e h = quotient_given values st e h
+wide_given Rem values st e h = remainder_given values st e h
+
+wide_signed_given : (o : HelpOp) (values : List ℕ) (st : Registers) → length values ≡ passed_to o I32 → Hold 12 values st.regs → Ends (code_for I32 o) st (HoldsComputed I32 o values)
+wide_signed_given Mul values st e h = product_given values st e h
+wide_signed_given Shl values st e h = left_given values st e h
+wide_signed_given Shr values st e h = right_signed_given values st e h
+wide_signed_given Div values st e h = quotient_signed_given values st e h
+wide_signed_given Rem values st e h = remainder_signed_given values st e h
 
 -- ---- all
 
-each_given : (t : IntType) (o : HelpOp) (values : List ℕ) (st : Registers) → is_covered (Some t) (Some o) ≡ true → length values ≡ passed_to o t → Hold 12 values st.regs → Ends (code_for t o) st (HoldsComputed t o values)
-each_given I8 o values st covered e h = narrow_given I8 refl o values st (e ∙ two o) h
-each_given U8 o values st covered e h = narrow_given U8 refl o values st (e ∙ two o) h
-each_given I16 o values st covered e h = narrow_given I16 refl o values st (e ∙ two o) h
-each_given U16 o values st covered e h = narrow_given U16 refl o values st (e ∙ two o) h
-each_given I32 o values st covered e h = wide_signed_given o values st covered e h
-each_given U32 o values st covered e h = wide_given o values st covered e h
+each_given : (t : IntType) (o : HelpOp) (values : List ℕ) (st : Registers) → length values ≡ passed_to o t → Hold 12 values st.regs → Ends (code_for t o) st (HoldsComputed t o values)
+each_given I8 o values st e h = narrow_given I8 refl o values st (e ∙ two o) h
+each_given U8 o values st e h = narrow_given U8 refl o values st (e ∙ two o) h
+each_given I16 o values st e h = narrow_given I16 refl o values st (e ∙ two o) h
+each_given U16 o values st e h = narrow_given U16 refl o values st (e ∙ two o) h
+each_given I32 o values st e h = wide_signed_given o values st e h
+each_given U32 o values st e h = wide_given o values st e h
 
-given : (t : Option IntType) (o : Option HelpOp) (values : List ℕ) (outs : ℕ) (st : Registers) → is_covered t o ≡ true → OperationFits t o (length values) outs → Hold 12 values st.regs →
+given : (t : Option IntType) (o : Option HelpOp) (values : List ℕ) (outs : ℕ) (st : Registers) → OperationFits t o (length values) outs → Hold 12 values st.regs →
     Ends (code_of t o) st (λ s. Hold 12 (computed t o values) s.regs) × (length (computed t o values) ≤ 4)
-given (Some t) (Some o) values outs st covered fits h = (each_given t o values st covered fits.0 h, few_halves t o values)
-given None o values outs st covered fits h = absurd fits
-given (Some t) None values outs st covered fits h = absurd fits
+given (Some t) (Some o) values outs st fits h = (each_given t o values st fits.0 h, few_halves t o values)
+given None o values outs st fits h = absurd fits
+given (Some t) None values outs st fits h = absurd fits
 
-meets : (c : MidCode) (h : ℕ) → h < 48 → is_covered (type_at (h / 8)) (operation_at (h % 8)) ≡ true → Meets (code_at h) (IsPassed c h) (helped c h)
-meets c h lt covered values takes st words held =
+meets : (c : MidCode) (h : ℕ) → h < 48 → Meets (code_at h) (IsPassed c h) (helped c h)
+meets c h lt values takes st words held =
     let t : nat_lt h first_check ≡ true = grind (arith, nat_tests) in
     let fits : OperationFits (type_at (h / 8)) (operation_at (h % 8)) (length values) takes.0 = subst (λ b. KindFits b (length c.checks) h (length values) takes.0) t takes.1 in
-    let g = given (type_at (h / 8)) (operation_at (h % 8)) values takes.0 st covered fits held in
+    let g = given (type_at (h / 8)) (operation_at (h % 8)) values takes.0 st fits held in
     record { bounded = g.0.bounded; given = computed (type_at (h / 8)) (operation_at (h % 8)) values; few = g.1; some = rw t refl; held = g.0.after }
 
 pub routines_are_routines : RoutinesAreRoutines
-routines_are_routines c image data_end marks entries out laid f h lt covered objects inside written unmarked is_even small =
-    code_is_routine (code_at h) (is_code (type_at (h / 8)) (operation_at (h % 8))) (IsPassed c h) (helped c h) (meets c h lt covered) image data_end marks entries out laid f inside written unmarked objects is_even small
+routines_are_routines c image data_end marks entries out laid f h lt objects inside written unmarked is_even small =
+    code_is_routine (code_at h) (is_code (type_at (h / 8)) (operation_at (h % 8))) (IsPassed c h) (helped c h) (meets c h lt) image data_end marks entries out laid f inside written unmarked objects is_even small

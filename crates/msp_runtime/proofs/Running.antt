@@ -116,7 +116,7 @@ sp_on (Skip c a) st = by (is_taken c st.sr) (sp_on a st)
 sp_on (Times most r a) st = repeated_sp (meaning a) r (sp_on a) (st.regs r) (done op2.Cmp (Made 0) r st)
 sp_on (Keeping r a) st = refl
 
-straight_bounded : (c : Code) → is_straight c ≡ true → (st : Registers) → IsBounded c st
+pub straight_bounded : (c : Code) → is_straight c ≡ true → (st : Registers) → IsBounded c st
 straight_bounded Nothing e st = tt
 straight_bounded (Do op s q) e st = tt
 straight_bounded (Then a b) e st = let t = both (is_straight a) (is_straight b) e in (straight_bounded a t.0 st, straight_bounded b t.1 (meaning a st))

@@ -102,7 +102,7 @@ signed_number x lt = by (nat_le 0x80000000 x) refl
 pub unsigned_number : (x : ℕ) → x < 0x100000000 → wrapped U32 (pos x) ≡ pos x
 unsigned_number x lt = ap pos (let z : x % 4294967296 ≡ x = omega (arith, lt) in z)
 
-top_half : (x0 x1 : ℕ) → x0 < 0x10000 → nat_le 0x80000000 (wide x0 x1) ≡ nat_le 0x8000 x1
+pub top_half : (x0 x1 : ℕ) → x0 < 0x10000 → nat_le 0x80000000 (wide x0 x1) ≡ nat_le 0x8000 x1
 top_half x0 x1 l0 = by (nat_le 0x8000 x1) refl
   where
     by : (b : Bool) → nat_le 0x8000 x1 ≡ b → nat_le 0x80000000 (wide x0 x1) ≡ b

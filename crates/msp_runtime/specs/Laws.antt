@@ -1,14 +1,10 @@
 -- Where the code of an operation is laid out, the routine that a Help asks for stands (own).
-use Rattle.std.specs.Prelude.{◌≡◌, ℕ, ◌+◌, ◌/◌, ◌%◌, ◌<◌, ◌≤◌, Bool, true, not, Option, Some, None, List, [], length}
+use Rattle.std.specs.Prelude.{◌≡◌, ℕ, ◌+◌, ◌/◌, ◌%◌, ◌<◌, ◌≤◌, List, [], length}
 use Rattle.nm_base.specs.declared.action.Action.{Action}
 use Rattle.msp_isa.specs.declared.code.CodeFn.{CodeFn}
 use Rattle.msp_isa.specs.Stands.{IsLaid, items_of}
 use Rattle.msp430_cpu.specs.Cpu.{even}
-use Rattle.nm_base.specs.declared.int_type.IntType.{IntType}
 use Rattle.mid_code.specs.declared.code.MidCode.{MidCode}
-use Rattle.mid_code.specs.declared.help.HelpOp.{HelpOp}
-use Rattle.mid_code.specs.declared.help.HelpOp.TheVariants.{Div, Rem}
-use Rattle.mid_code.specs.Help.{is_wide, operation_at, type_at}
 use Rattle.msp_select.specs.Routine.{IsRoutine}
 use Rattle.msp_runtime.specs.Code.{routine_items, weight}
 use Rattle.msp_runtime.specs.Routines.{code_at}
@@ -17,17 +13,11 @@ use Rattle.msp_runtime.specs.Routines.{code_at}
 abbrev pub IsUnmarked : (marks : ℕ → List Action) → (places : ℕ → ℕ) → (items : ℕ) → Type 0
 IsUnmarked marks places items = (k a : ℕ) → k < items → places k ≤ a → a < places (k + 1) → marks a ≡ []
 
--- all operations but quotients and remainders of 32 bits
-abbrev pub is_covered : Option IntType → Option HelpOp → Bool
-is_covered (Some t) (Some Div) = not (is_wide t)
-is_covered (Some t) (Some Rem) = not (is_wide t)
-is_covered _ _ = true
-
 -- where the routine of number h is function f of what is laid out
 abbrev pub RoutinesAreRoutines : Type 0
 RoutinesAreRoutines =
     (c : MidCode) (image : ℕ → ℕ) (data_end : ℕ) (marks : ℕ → List Action) (entries : ℕ → ℕ) (out : List CodeFn) (laid : IsLaid image out entries) (f h : ℕ) →
-    h < 48 → is_covered (type_at (h / 8)) (operation_at (h % 8)) ≡ true → 0x1100 ≤ data_end → f < length out → items_of out f ≡ routine_items (code_at h) → IsUnmarked marks (laid.places f) (length (items_of out f)) → even (entries f) ≡ entries f → entries f < 0x10000 →
+    h < 48 → 0x1100 ≤ data_end → f < length out → items_of out f ≡ routine_items (code_at h) → IsUnmarked marks (laid.places f) (length (items_of out f)) → even (entries f) ≡ entries f → entries f < 0x10000 →
     IsRoutine c image data_end marks h (entries f) (weight (code_at h) + 2)
 
 -- and how many instructions that is at most
