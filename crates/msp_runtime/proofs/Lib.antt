@@ -16,4 +16,5 @@ pub mod WideDivide
 pub mod GivenWide
 pub mod WideSigned
 pub mod Numbers
+pub mod Short
 pub mod WorkedRows

@@ -300,6 +300,19 @@ module _ (image : ℕ → ℕ) (data_end : ℕ) (marks : ℕ → List Action) (s
     gated : (b pc : ℕ) (st : Registers) (stack : ℕ → ℕ) → bit st.sr 3 ≡ gie start → Reach b (at pc st stack) → Reach b (record (at pc st stack) { gate = bit st.sr 3 })
     gated b pc st stack e more = subst (λ x. Reach b (record (at pc st stack) { gate = x })) (sym e) more
 
+    -- one that is not taken
+    stays : (b d pc target next : ℕ) (c : Cond) (st : Registers) (stack : ℕ → ℕ) → is_short c ≡ true → Jumps pc target next c → IsSettled d st → is_taken c st.sr ≡ false → Reach b (at next st stack) → Reach (suc b) (at pc st stack)
+    stays b d pc target next c st stack short (inl near) s e more =
+        let here = good d pc st stack s (let x = near.0.at.at.even in omega (arith, x)) (let y = near.0.at.at.high in omega (arith, y)) near.0.at.table in
+        one b (at pc st stack) (record (at (pc + 2) st stack) { gate = bit st.sr 3 }) here
+        (jump image data_end marks sp0 (at pc st stack) c target false (ready d pc st stack s) near.0 e) refl
+        (gated b (pc + 2) st stack s.gie (subst (λ n. Reach b (at n st stack)) (sym near.1) more))
+    stays b d pc target next c st stack short (inr far) s e more =
+        let here = good d pc st stack s (let x = far.over.at.at.even in omega (arith, x)) (let y = far.over.at.at.high in omega (arith, y)) far.over.at.table in
+        one b (at pc st stack) (record (at (pc + 6) st stack) { gate = bit st.sr 3 }) here
+        (jump image data_end marks sp0 (at pc st stack) (reversed c) (pc + 6) true (ready d pc st stack s) far.over (reversed_not c st.sr short ∙ ap not e)) refl
+        (gated b (pc + 6) st stack s.gie (subst (λ n. Reach b (at n st stack)) (sym far.behind) more))
+
     leaps : (b d pc target next : ℕ) (c : Cond) (st : Registers) (stack : ℕ → ℕ) (taken : Bool) → is_short c ≡ true → Jumps pc target next c → IsSettled d st → is_taken c st.sr ≡ taken → Reach b (at (cond taken target next) st stack) → Reach (suc (suc b)) (at pc st stack)
     leaps b d pc target next c st stack taken short (inl near) s e more =
         let here = good d pc st stack s (let x = near.0.at.at.even in omega (arith, x)) (let y = near.0.at.at.high in omega (arith, y)) near.0.at.table in
@@ -316,12 +329,7 @@ module _ (image : ℕ → ℕ) (data_end : ℕ) (marks : ℕ → List Action) (s
         (one b (at (pc + 2) st stack) (record (at target st stack) { gate = bit st.sr 3 }) there
         (go_to image data_end marks sp0 (at (pc + 2) st stack) target (ready d (pc + 2) st stack s) far.goes far.even_target far.small_target) refl
         (gated b target st stack s.gie more)))
-    leaps b d pc target next c st stack false short (inr far) s e more =
-        let here = good d pc st stack s (let x = far.over.at.at.even in omega (arith, x)) (let y = far.over.at.at.high in omega (arith, y)) far.over.at.table in
-        wider (suc b) (suc (suc b)) (at pc st stack) (omega arith)
-        (one b (at pc st stack) (record (at (pc + 6) st stack) { gate = bit st.sr 3 }) here
-        (jump image data_end marks sp0 (at pc st stack) (reversed c) (pc + 6) true (ready d pc st stack s) far.over (reversed_not c st.sr short ∙ ap not e)) refl
-        (gated b (pc + 6) st stack s.gie (subst (λ n. Reach b (at n st stack)) (sym far.behind) more)))
+    leaps b d pc target next c st stack false short (inr far) s e more = wider (suc b) (suc (suc b)) (at pc st stack) (omega arith) (stays b d pc target next c st stack short (inr far) s e more)
 
     -- ---- all code
 
@@ -407,11 +415,11 @@ module _ (image : ℕ → ℕ) (data_end : ℕ) (marks : ℕ → List Action) (s
         t = both (is_short c) (is_formed a) f
 
         by : (taken : Bool) → is_taken c st.sr ≡ taken → (Behind a end st stack b → Reach (weight a + b) (at stands.0 st stack)) →
-            ((stack' : ℕ → ℕ) → SameFrom st.sp stack stack' → Reach b (at end (cond taken st (meaning a st)) stack')) → Reach (2 + weight a + b) (at pc st stack)
+            ((stack' : ℕ → ℕ) → SameFrom st.sp stack stack' → Reach b (at end (cond taken st (meaning a st)) stack')) → Reach (max 2 (1 + weight a) + b) (at pc st stack)
         by true e inner more' =
-            wider (suc (suc b)) (2 + weight a + b) (at pc st stack) (omega arith)
+            wider (suc (suc b)) (max 2 (1 + weight a) + b) (at pc st stack) (omega arith)
             (leaps b d pc end stands.0 c st stack true t.0 stands.1 s e (more' stack (λ a l. refl)))
-        by false e inner more' = wider (suc (suc (weight a + b))) (2 + weight a + b) (at pc st stack) (omega arith) (leaps (weight a + b) d pc end stands.0 c st stack false t.0 stands.1 s e (inner more'))
+        by false e inner more' = wider (suc (weight a + b)) (max 2 (1 + weight a) + b) (at pc st stack) (omega arith) (stays (weight a + b) d pc end stands.0 c st stack t.0 stands.1 s e (inner more'))
     run (Times most r a) pc end d st stack b f bounded stands le s more =
         by (st.regs r) refl (λ st' stack' b' s' more'. run a stands.1 stands.2 d st' stack' b' w.1 (straight_bounded a w.0 st') stands.6 le s' more') more
       where

@@ -64,13 +64,13 @@ meaning (Skip c a) st = if is_taken c st.sr then st else meaning a st
 meaning (Times most r a) st = repeated (meaning a) r (st.regs r) (done Cmp (Made 0) r st)
 meaning (Keeping r a) st = popped r (st.regs r) st.sp (meaning a (pushed st))
 
--- ---- instructions at most, where a jump may take two, and bytes of stack
+-- ---- instructions at most, where a jump that is taken may take two, and bytes of stack
 
 abbrev pub weight : Code → ℕ
 weight Nothing = 0
 weight (Do op s r) = 1
 weight (Then a b) = weight a + weight b
-weight (Skip c a) = 2 + weight a
+weight (Skip c a) = max 2 (1 + weight a)
 weight (Times most r a) = 3 + most * (weight a + 3)
 weight (Keeping r a) = 3 + weight a
 

@@ -6,7 +6,7 @@ use Rattle.msp_isa.specs.Stands.{IsLaid, items_of}
 use Rattle.msp430_cpu.specs.Cpu.{even}
 use Rattle.mid_code.specs.declared.code.MidCode.{MidCode}
 use Rattle.msp_select.specs.Routine.{IsRoutine}
-use Rattle.msp_runtime.specs.Code.{routine_items, weight}
+use Rattle.msp_runtime.specs.Code.{depth, routine_items, weight}
 use Rattle.msp_runtime.specs.Routines.{code_at}
 
 -- no silent actions stand in a function
@@ -20,6 +20,6 @@ RoutinesAreRoutines =
     h < 48 → 0x1100 ≤ data_end → f < length out → items_of out f ≡ routine_items (code_at h) → IsUnmarked marks (laid.places f) (length (items_of out f)) → even (entries f) ≡ entries f → entries f < 0x10000 →
     IsRoutine c image data_end marks h (entries f) (weight (code_at h) + 2)
 
--- and how many instructions that is at most
+-- with RET, and with the return address
 abbrev pub RoutinesAreShort : Type 0
-RoutinesAreShort = (h : ℕ) → weight (code_at h) ≤ 600
+RoutinesAreShort = (h : ℕ) → (weight (code_at h) + 1 ≤ 600) × (depth (code_at h) + 2 ≤ 60)

@@ -11,6 +11,6 @@ mod rows;
 mod wide;
 mod words;
 
-pub use laws::routines_are_routines;
+pub use laws::{routines_are_routines, routines_are_short};
 pub use routines::{OPERATIONS, operation_routines};
 pub use rows::worked_rows;
