@@ -1,5 +1,5 @@
 -- Quotients and remainders of 16 bits: sixteen turns of restoring division.
-use Rattle.std.proofs.Common.{◌≡◌, ◌⊎◌, ◌==◌, ℕ, zero, suc, ◌+◌, ◌-◌, ◌*◌, ◌/◌, ◌%◌, ◌^◌, ◌<◌, ◌≤◌, Bool, true, false, cond, not, nat_le, [], ◌∷◌, refl, sym, ap, ◌∙◌, subst, arith}
+use Rattle.std.proofs.Common.{◌≡◌, ◌⊎◌, ◌==◌, ℕ, suc, ◌+◌, ◌-◌, ◌*◌, ◌/◌, ◌%◌, ◌^◌, ◌<◌, ◌≤◌, Bool, true, false, cond, not, nat_le, [], ◌∷◌, refl, sym, ap, ◌∙◌, arith}
 use mathlib.Core.Logic.{inl, inr}
 use Rattle.std.proofs.lemmas.Bool.{cases_lt}
 use Rattle.std.proofs.lemmas.Bool.Decides.{nat_tests}
@@ -11,9 +11,9 @@ use Rattle.msp_isa.specs.declared.instr.Op2.TheVariants as op2
 use Rattle.msp430_cpu.specs.Operate.{is_taken, operate}
 use Rattle.open_law.specs.Homes.{Made}
 use Rattle.open_law.proofs.Homes.{flags_carry}
-use Rattle.msp_runtime.specs.Code.{Registers, Skip, Times, done, meaning}
-use Rattle.msp_runtime.specs.Routines.{add, add_carry, all, compare, copy, count_up, divide, register, set, subtract}
-use Rattle.msp_runtime.proofs.Steps.{Ends, carry_out, does, is_below, least_taken, below_taken, loops, nothing, skips, then}
+use Rattle.msp_runtime.specs.Code.{Registers, Skip, Times, done}
+use Rattle.msp_runtime.specs.Routines.{add, add_carry, all, compare, count_up, divide, register, set, subtract}
+use Rattle.msp_runtime.proofs.Steps.{Ends, carry_out, does, is_below, least_taken, loops, nothing, skips, then}
 
 -- With k turns left, R12 holds the bits of x that are left, from bit 15 down, above the quotient so far, and R14 what remains
 -- of the bits that were taken
@@ -63,15 +63,31 @@ module _ (x d j b q t behind : ℕ) (small_d : d < 0x10000) (small_t : t < d + d
       Ends (all (Skip Jnc (all (subtract 13 14 ∷ count_up 12 ∷ [])) ∷ [])) s (λ s'. Dividing x d j (done op2.Sub (Made 1) 15 s').regs)
   second s is_more e more less e12 e13 e14 = then (skips (tt, (tt, tt)) (not is_more) e
       (λ n. let lt = less (from_true is_more n) in nothing (record {
-        bits = b; quotient = q + q; rest = t; behind = behind + behind; held = e12; divisor = e13; remains = e14 ∙ (let z : t % 0x10000 ≡ t = omega (arith, lt, small_d) in z); less = lt; few = few; few_quotient = omega (arith, few_q); whole = whole;
+        bits = b;
+        quotient = q + q;
+        rest = t;
+        behind = behind + behind;
+        held = e12;
+        divisor = e13;
+        remains = e14 ∙ (let z : t % 0x10000 ≡ t = omega (arith, lt, small_d) in z);
+        less = lt;
+        few = few;
+        few_quotient = omega (arith, few_q);
+        whole = whole;
         is = less_again x (d * q) q d t (2 ^ j) b refl is;
       }))
       (λ n. let le = more (from_false is_more n) in nothing (record {
-        bits = b; quotient = q + q + 1; rest = t - d; behind = behind + behind;
+        bits = b;
+        quotient = q + q + 1;
+        rest = t - d;
+        behind = behind + behind;
         held = ap (λ n. (n + 1 + 0) % 0x10000) e12 ∙ (let f = fits in omega (arith, f));
         divisor = e13;
         remains = ap (λ n. (n + (0x10000 - 1 - s.regs 13) + 1) % 0x10000) e14 ∙ ap (λ n. (t % 0x10000 + (0x10000 - 1 - n) + 1) % 0x10000) e13 ∙ (let z : (t % 0x10000 + (0x10000 - 1 - d) + 1) % 0x10000 ≡ t - d = omega (arith, le, small_d, small_t) in z);
-        less = omega (arith, le, small_t); few = few; few_quotient = omega (arith, few_q); whole = whole;
+        less = omega (arith, le, small_t);
+        few = few;
+        few_quotient = omega (arith, few_q);
+        whole = whole;
         is = taken_off x (d * q) q d t (2 ^ j) b refl le is;
       })))
     where
@@ -88,9 +104,9 @@ module _ (x d j b q t behind : ℕ) (small_d : d < 0x10000) (small_t : t < d + d
   tested s e12 e13 e14 carry = then (skips tt (nat_le 0x10000 t) carry
       (λ n. second s true (ap not carry ∙ ap not n) (λ u. let l : 0x10000 ≤ t = grind (arith, nat_tests) in omega (arith, l, small_d)) (λ u. absurd (let z : ⊥ = cc in z)) e12 e13 e14)
       (λ n. let lt : t < 0x10000 = grind (arith, nat_tests) in
-          second (done op2.Cmp (register 13) 14 s) (nat_le d t)
-          (ap (λ m. is_taken Jnc (operate op2.Cmp false s.sr m (s.regs 14)).sr) e13 ∙ least_taken s.sr d (s.regs 14) small_d ∙ ap (λ m. not (nat_le d m)) (e14 ∙ (let z : t % 0x10000 ≡ t = omega (arith, lt) in z)))
-          (λ u. grind (arith, nat_tests)) (λ u. grind (arith, nat_tests)) e12 e13 e14))
+      second (done op2.Cmp (register 13) 14 s) (nat_le d t)
+      (ap (λ m. is_taken Jnc (operate op2.Cmp false s.sr m (s.regs 14)).sr) e13 ∙ least_taken s.sr d (s.regs 14) small_d ∙ ap (λ m. not (nat_le d m)) (e14 ∙ (let z : t % 0x10000 ≡ t = omega (arith, lt) in z)))
+      (λ u. grind (arith, nat_tests)) (λ u. grind (arith, nat_tests)) e12 e13 e14))
 
 divide_turn : (x d : ℕ) → d < 0x10000 → (j : ℕ) (s : Registers) → Dividing x d (suc j) s.regs → Ends (all (add 12 12 ∷ add_carry 14 14 ∷ Skip Jc (compare 13 14) ∷ Skip Jnc (all (subtract 13 14 ∷ count_up 12 ∷ [])) ∷ [])) s (λ s'. Dividing x d j (done op2.Sub (Made 1) 15 s').regs)
 divide_turn x d small_d j s g = by (cases_lt g.bits p)
@@ -163,10 +179,10 @@ by_other st x d P ex lx ed ld some more =
     (record { bits = x; quotient = 0; rest = 0; behind = 1; held = ex ∙ omega arith; divisor = ed; remains = refl; less = some; few = lx; few_quotient = omega arith; whole = refl; is = omega arith })
     (divide_turn x d ld)
     (λ s g. nothing (
-        let none : g.bits ≡ 0 = let f = g.few in omega (arith, f) in
-        let i : x ≡ d * g.quotient + g.rest = let e = g.is in omega (arith, e, none) in
-        let u = divided x d g.quotient g.rest g.less i in
-        more s (g.held ∙ ap (λ m. m * g.behind + g.quotient) none ∙ (let z : 0 * g.behind + g.quotient ≡ g.quotient = omega arith in z) ∙ u.0) (g.remains ∙ u.1))))))))
+    let none : g.bits ≡ 0 = let f = g.few in omega (arith, f) in
+    let i : x ≡ d * g.quotient + g.rest = let e = g.is in omega (arith, e, none) in
+    let u = divided x d g.quotient g.rest g.less i in
+    more s (g.held ∙ ap (λ m. m * g.behind + g.quotient) none ∙ (let z : 0 * g.behind + g.quotient ≡ g.quotient = omega arith in z) ∙ u.0) (g.remains ∙ u.1))))))))
 
 pub divide_does : (st : Registers) (x d : ℕ) → st.regs 12 ≡ x → x < 0x10000 → st.regs 13 ≡ d → d < 0x10000 → Ends divide st (IsDivided x d)
 divide_does st x d ex lx ed ld =

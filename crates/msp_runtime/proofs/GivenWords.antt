@@ -1,16 +1,15 @@
 -- What helpers give of words, in numbers of words.
-use Rattle.std.proofs.Common.{◌≡◌, ◌⊎◌, ℕ, zero, suc, ◌+◌, ◌-◌, ◌*◌, ◌/◌, ◌%◌, ◌^◌, ◌==◌, ◌<◌, ◌≤◌, Bool, true, false, cond, nat_le, nat_lt, refl, sym, ap, ◌∙◌, subst, arith}
-use mathlib.Core.Logic.{inl, inr}
-use Rattle.std.specs.Prelude.{ℤ, pos, negsuc, neg_ℤ, int_div, int_rem, int_lt, unsigned_abs}
+use Rattle.std.proofs.Common.{◌≡◌, ℕ, zero, suc, ◌+◌, ◌-◌, ◌*◌, ◌/◌, ◌%◌, ◌^◌, ◌==◌, ◌<◌, ◌≤◌, Bool, true, false, cond, nat_le, nat_lt, refl, sym, ap, ◌∙◌, arith}
+use Rattle.std.specs.Prelude.{pos, negsuc, neg_ℤ, int_div, int_rem, unsigned_abs}
 use Rattle.std.specs.Ordering.{int_eq}
 use Rattle.std.proofs.lemmas.Bool.Decides.{Decides-eqb, Decides-int_eq, nat_tests, same_from_decides}
 use Rattle.std.proofs.lemmas.Int.{ints}
 use Rattle.std.proofs.Math.Nat.{div-le_self, mod-le}
-use Rattle.nm_base.specs.declared.int_type.IntType.TheVariants.{I8, U8, I16, U16, I32, U32}
+use Rattle.nm_base.specs.declared.int_type.IntType.TheVariants.{I16, U16}
 use Rattle.nm_base.specs.IntType.{signed_part, wrapped}
-use Rattle.mid_code.specs.Help.{floor_div, residue, shifted_right, sign, unless_zero}
+use Rattle.mid_code.specs.Help.{residue, shifted_right, unless_zero}
 use Rattle.msp_runtime.proofs.Divide.{quotient_of, remainder_of}
-use Rattle.msp_runtime.proofs.Shifts.{above, risen, shifted_left}
+use Rattle.msp_runtime.proofs.Shifts.{above, risen}
 
 -- ---- numbers below 16
 

@@ -1,24 +1,22 @@
 -- Code with a RET behind it, laid out in an image, is a routine there.
-use Rattle.std.proofs.Common.{None, Some, ◌≡◌, Option, ℕ, suc, ◌+◌, ◌-◌, ◌<◌, ◌≤◌, true, false, List, [], ◌∷◌, ◌++◌, length, refl, sym, ap, ◌∙◌, subst, arith}
+use Rattle.std.proofs.Common.{◌≡◌, Option, ℕ, suc, ◌+◌, ◌-◌, ◌<◌, ◌≤◌, true, false, List, [], ◌∷◌, ◌++◌, length, sym, ◌∙◌, subst, arith}
 use Rattle.std.specs.Prelude.{slice_index}
 use Rattle.nm_base.specs.declared.action.Action.{Action}
 use Rattle.msp_isa.specs.declared.code.CodeFn.{CodeFn}
-use Rattle.msp_isa.specs.declared.code.Item.{Item}
 use Rattle.msp_isa.specs.declared.instr.Instr.TheVariants.{Two}
 use Rattle.msp_isa.specs.declared.instr.Op2.TheVariants.{Mov}
 use Rattle.msp_isa.specs.declared.instr.Operand.TheVariants.{Reg, Increment}
 use Rattle.msp_isa.specs.Stands.{IsLaid, items_of}
-use Rattle.msp430_cpu.specs.Cpu.{Cpu, cpuoff, even, gie, reg}
+use Rattle.msp430_cpu.specs.Cpu.{even, reg}
 use Rattle.open_law.specs.Body.{code_below}
-use Rattle.open_law.specs.Open.{HoldsWords, open_start}
+use Rattle.open_law.specs.Open.{open_start}
 use Rattle.open_law.specs.Stands.{IsMarked}
 use Rattle.open_law.proofs.Quiet.{reg_plain}
 use Rattle.msp_select.specs.Routine.{Ends, Hold, IsGoing, IsRoutineOf, Turns}
-use Rattle.msp_select.proofs.Helping.{hold_on}
-use Rattle.msp_runtime.specs.Code.{Code, Registers, depth, is_formed, items_from, leaves_others, meaning, return, routine_items, weight}
+use Rattle.msp_runtime.specs.Code.{Code, Registers, depth, is_formed, items_from, leaves_others, return, routine_items, weight}
 use Rattle.msp_runtime.proofs.Running.{Stand}
 use Rattle.msp_runtime.proofs.Standing.{Holds, IsPlaced, all_hold, first_holds, rest_holds, single, stand_at}
-use Rattle.msp_runtime.proofs.Returning.{Gives, Meets, turns}
+use Rattle.msp_runtime.proofs.Returning.{Meets, turns}
 
 -- what is so of code for routines, whatever it does
 pub record IsRoutineCode (c : Code) : Type 0 where

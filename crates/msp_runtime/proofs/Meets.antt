@@ -1,20 +1,18 @@
 -- The code of each operation of 8 and 16 bits gives what the helper gives.
-use Rattle.std.proofs.Common.{◌≡◌, ℕ, zero, suc, ◌+◌, ◌-◌, ◌*◌, ◌/◌, ◌%◌, ◌^◌, ◌==◌, ◌<◌, ◌≤◌, Bool, true, false, cond, nat_le, nat_lt, List, [], ◌∷◌, length, refl, sym, ap, ◌∙◌, subst, arith}
+use Rattle.std.proofs.Common.{◌≡◌, ℕ, ◌*◌, ◌%◌, ◌^◌, ◌<◌, ◌≤◌, Bool, true, false, cond, nat_lt, [], ◌∷◌, refl, ap, ◌∙◌, arith}
 use Rattle.std.proofs.lemmas.Bool.Decides.{nat_tests}
 use Rattle.std.specs.Prelude.{ℤ, pos, negsuc, int_div, int_rem}
-use Rattle.nm_base.specs.declared.int_type.IntType.{IntType}
-use Rattle.nm_base.specs.declared.int_type.IntType.TheVariants.{I8, U8, I16, U16, I32, U32}
-use Rattle.nm_base.specs.IntType.{width, wrapped}
+use Rattle.nm_base.specs.declared.int_type.IntType.TheVariants.{I8, U8, I16, U16}
+use Rattle.nm_base.specs.IntType.{wrapped}
 use Rattle.mid_code.specs.declared.help.HelpOp.{HelpOp}
 use Rattle.mid_code.specs.declared.help.HelpOp.TheVariants.{Mul, Div, Rem, Shl, Shr}
 use Rattle.mid_code.specs.Help.{operation, residue, shifted_right, unless_zero}
-use Rattle.msp_select.specs.Routine.{Hold}
 use Rattle.msp_runtime.specs.Code.{Code, Registers}
 use Rattle.msp_runtime.specs.Routines.{all, byte_code, extend, multiply, narrow, narrow_division, narrow_right, quotient, remainder, shift_left, shift_right, word_code}
 use Rattle.msp_runtime.proofs.Steps.{Ends, does, nothing, then}
-use Rattle.msp_runtime.proofs.Shifts.{above, risen, shift_left_does, shift_right_does, shifted_left}
+use Rattle.msp_runtime.proofs.Shifts.{shift_left_does, shift_right_does, shifted_left}
 use Rattle.msp_runtime.proofs.Multiply.{multiply_does}
-use Rattle.msp_runtime.proofs.Divide.{divide_does, quotient_of, remainder_of}
+use Rattle.msp_runtime.proofs.Divide.{divide_does}
 use Rattle.msp_runtime.proofs.Signed.{quotient_does, remainder_does}
 use Rattle.msp_runtime.proofs.GivenWords.{each16, quotient_signed, quotient_unsigned, remainder_signed, remainder_unsigned, right_signed, right_unsigned}
 use Rattle.msp_runtime.proofs.Narrow.{extend_12, extend_13, extended, masked, residue_8, right_signed_byte, right_unsigned_byte, signed_byte, small_extended, unsigned_byte}

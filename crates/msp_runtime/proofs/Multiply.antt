@@ -1,13 +1,12 @@
 -- Products of 16 bits: sixteen turns of shift and add.
-use Rattle.std.proofs.Common.{◌≡◌, ℕ, zero, suc, ◌+◌, ◌-◌, ◌*◌, ◌/◌, ◌%◌, ◌^◌, ◌<◌, ◌≤◌, true, false, not, nat_le, [], ◌∷◌, refl, sym, ap, ◌∙◌, arith}
+use Rattle.std.proofs.Common.{◌≡◌, ℕ, suc, ◌+◌, ◌*◌, ◌/◌, ◌%◌, ◌^◌, ◌<◌, ◌≤◌, not, nat_le, [], ◌∷◌, refl, sym, ap, ◌∙◌, arith}
 use Rattle.std.proofs.lemmas.Bool.Decides.{nat_tests}
 use Rattle.std.proofs.Math.Nat.{pow-suc}
 use Rattle.msp_isa.specs.declared.instr.Cond.TheVariants.{Jnc}
 use Rattle.msp_isa.specs.declared.instr.Op2.TheVariants as op2
-use Rattle.msp430_cpu.specs.Operate.{is_taken, operate}
 use Rattle.open_law.specs.Homes.{Made}
 use Rattle.open_law.proofs.Homes.{flags_carry}
-use Rattle.msp_runtime.specs.Code.{Registers, done, meaning}
+use Rattle.msp_runtime.specs.Code.{Registers, done}
 use Rattle.msp_runtime.specs.Routines.{add, all, multiply}
 use Rattle.msp_runtime.specs.Code.{Skip}
 use Rattle.msp_runtime.proofs.Steps.{Ends, does, loops, nothing, skips, then}
@@ -54,11 +53,27 @@ turn a result small_a j s g =
     let back = ap (λ y. (sum * y + a * (rest * y / 0x10000)) % 0x10000) power ∙ g.goal in
     then (does (then (does (then (skips tt (not (nat_le 0x10000 (rest + rest + 0))) (ap not (flags_carry _ _ _ _ _ ∙ ap (λ n. nat_le 0x10000 (n + n + 0)) g.resting))
     (λ t. let under : rest + rest < 0x10000 = grind (arith, nat_tests) in
-        nothing (record { sum = twice; rest = rest'; summed = e12; resting = e13; factor = g.factor; small = omega arith; few = omega arith;
-          goal = kept sum a p x ((sum + sum) / 0x10000) twice (omega arith) ∙ ap (λ y. (sum * (p * 2) + a * y) % 0x10000) (sym (bit_out rest p rest' (omega (arith, under)))) ∙ back }))
+    nothing (record {
+      sum = twice;
+      rest = rest';
+      summed = e12;
+      resting = e13;
+      factor = g.factor;
+      small = omega arith;
+      few = omega arith;
+      goal = kept sum a p x ((sum + sum) / 0x10000) twice (omega arith) ∙ ap (λ y. (sum * (p * 2) + a * y) % 0x10000) (sym (bit_out rest p rest' (omega (arith, under)))) ∙ back;
+    }))
     (λ t. let over : 0x10000 ≤ rest + rest = grind (arith, nat_tests) in
-        nothing (record { sum = sum'; rest = rest'; summed = ap (λ n. (n + s.regs 14 + 0) % 0x10000) e12 ∙ ap (λ n. (twice + n + 0) % 0x10000) g.factor; resting = e13; factor = g.factor; small = omega arith; few = omega arith;
-          goal = added sum a p x ((sum + sum) / 0x10000 + ((sum + sum) % 0x10000 + a) / 0x10000) sum' (omega arith) ∙ ap (λ y. (sum * (p * 2) + a * y) % 0x10000) (sym (bit_in rest p rest' (omega (arith, over, lr)))) ∙ back })))))))
+    nothing (record {
+      sum = sum';
+      rest = rest';
+      summed = ap (λ n. (n + s.regs 14 + 0) % 0x10000) e12 ∙ ap (λ n. (twice + n + 0) % 0x10000) g.factor;
+      resting = e13;
+      factor = g.factor;
+      small = omega arith;
+      few = omega arith;
+      goal = added sum a p x ((sum + sum) / 0x10000 + ((sum + sum) % 0x10000 + a) / 0x10000) sum' (omega arith) ∙ ap (λ y. (sum * (p * 2) + a * y) % 0x10000) (sym (bit_in rest p rest' (omega (arith, over, lr)))) ∙ back;
+    })))))))
 
 pub multiply_does : (st : Registers) (x y : ℕ) → st.regs 12 ≡ x → x < 0x10000 → st.regs 13 ≡ y → y < 0x10000 → Ends multiply st (λ s. s.regs 12 ≡ (x * y) % 0x10000)
 multiply_does st x y ex lx ey ly =
@@ -66,4 +81,4 @@ multiply_does st x y ex lx ey ly =
     (record { sum = 0; rest = y; summed = refl; resting = ey; factor = ex; small = omega arith; few = ly; goal = (let z : y * 0x10000 / 0x10000 ≡ y = omega arith in ap (λ n. (0 * 0x10000 + x * n) % 0x10000) z ∙ omega arith) })
     (turn x ((x * y) % 0x10000) lx)
     (λ s g. nothing (g.summed ∙ (let l = g.small in let f = g.few in let z : g.rest * 1 / 0x10000 ≡ 0 = omega (arith, f) in
-        sym (ap (λ n. (g.sum * 1 + x * n) % 0x10000) z ∙ omega (arith, l))) ∙ g.goal)))))))))
+    sym (ap (λ n. (g.sum * 1 + x * n) % 0x10000) z ∙ omega (arith, l))) ∙ g.goal)))))))))

@@ -1,15 +1,15 @@
 -- Routines of 8 bits, by way of 16.
-use Rattle.std.proofs.Common.{◌≡◌, ℕ, zero, suc, ◌+◌, ◌-◌, ◌*◌, ◌/◌, ◌%◌, ◌^◌, ◌==◌, ◌<◌, ◌≤◌, Bool, true, false, cond, nat_le, nat_lt, [], ◌∷◌, refl, sym, ap, ◌∙◌, subst, arith, bit_and}
-use Rattle.std.specs.Prelude.{ℤ, pos, negsuc, int_div, int_rem, int_lt}
+use Rattle.std.proofs.Common.{◌≡◌, ℕ, ◌+◌, ◌-◌, ◌/◌, ◌%◌, ◌^◌, ◌<◌, ◌≤◌, Bool, true, false, cond, nat_le, nat_lt, refl, sym, ap, ◌∙◌, arith, bit_and}
+use Rattle.std.specs.Prelude.{ℤ, pos, negsuc}
 use Rattle.std.proofs.lemmas.Bool.Decides.{nat_tests}
 use Rattle.std.proofs.lemmas.Int.{ints}
 use Rattle.std.proofs.lemmas.Nat.{and_mask}
 use Rattle.nm_base.specs.declared.int_type.IntType.TheVariants.{I8, U8, I16, U16}
 use Rattle.nm_base.specs.IntType.{signed_part, wrapped}
-use Rattle.mid_code.specs.Help.{floor_div, residue, shifted_right, sign, unless_zero}
+use Rattle.mid_code.specs.Help.{residue, shifted_right}
 use Rattle.msp_runtime.specs.Code.{Code, Registers}
-use Rattle.msp_runtime.specs.Routines.{all, extend, low_byte, narrow}
-use Rattle.msp_runtime.proofs.Steps.{Ends, at_least, does, nothing, then}
+use Rattle.msp_runtime.specs.Routines.{extend, narrow}
+use Rattle.msp_runtime.proofs.Steps.{Ends, does, nothing, then}
 use Rattle.msp_runtime.proofs.GivenWords.{each16, signed_word, unsigned_word}
 
 -- ---- numbers

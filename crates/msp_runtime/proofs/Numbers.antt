@@ -1,5 +1,5 @@
 -- From the code of each number to the routine that a Help asks for.
-use Rattle.std.proofs.Common.{Some, None, ◌≡◌, Option, ℕ, zero, suc, ◌+◌, ◌-◌, ◌*◌, ◌/◌, ◌%◌, ◌^◌, ◌==◌, ◌<◌, ◌≤◌, Bool, true, false, cond, nat_le, nat_lt, List, [], ◌∷◌, length, refl, sym, ap, ◌∙◌, subst, arith}
+use Rattle.std.proofs.Common.{Some, None, ◌≡◌, Option, ℕ, ◌*◌, ◌/◌, ◌%◌, ◌^◌, ◌<◌, ◌≤◌, Bool, true, false, cond, nat_lt, List, [], ◌∷◌, length, refl, sym, ◌∙◌, subst, arith}
 use Rattle.std.specs.Prelude.{ℤ, pos, negsuc}
 use Rattle.std.proofs.lemmas.Bool.Decides.{nat_tests}
 use Rattle.std.proofs.lemmas.Nat.{mod_below}
@@ -11,13 +11,13 @@ use Rattle.mid_code.specs.declared.help.HelpOp.TheVariants.{Mul, Div, Rem, Shl, 
 use Rattle.mid_code.specs.Form.{KindFits, OperationFits, passed_to}
 use Rattle.mid_code.specs.Help.{computed, first_check, helped, is_wide, operation, operation_at, residue, type_at}
 use Rattle.msp_select.specs.Routine.{Hold, IsPassed}
-use Rattle.msp_runtime.specs.Code.{Code, Registers, IsBounded}
+use Rattle.msp_runtime.specs.Code.{Code, Registers}
 use Rattle.msp_runtime.specs.Routines.{code_at, code_for, code_of}
 use Rattle.msp_runtime.specs.Laws.{RoutinesAreRoutines}
 use Rattle.msp_runtime.proofs.Laid.{IsRoutineCode, code_is_routine}
 use Rattle.msp_runtime.proofs.Meets.{HoldsNumber, after, byte_signed, byte_unsigned, residue_small, word_signed, word_unsigned}
-use Rattle.msp_runtime.proofs.Returning.{Gives, Meets}
-use Rattle.msp_runtime.proofs.Steps.{Ends, nothing}
+use Rattle.msp_runtime.proofs.Returning.{Meets}
+use Rattle.msp_runtime.proofs.Steps.{Ends}
 use Rattle.msp_runtime.proofs.WideProducts.{IsWideNumber, multiply_wide_does, shift_left_wide_does, shifted_left_wide, wide}
 use Rattle.msp_runtime.proofs.GivenWide.{quotient_signed_wide, quotient_unsigned_wide, remainder_signed_wide, remainder_unsigned_wide}
 use Rattle.msp_runtime.proofs.WideSigned.{quotient_signed_wide_does, quotient_wide_does, remainder_signed_wide_does, remainder_wide_does}

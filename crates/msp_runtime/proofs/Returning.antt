@@ -1,29 +1,27 @@
 -- Code over registers with a RET behind it is a routine.
-use Rattle.std.proofs.Common.{None, Some, ◌≡◌, Option, ℕ, zero, suc, ◌+◌, ◌-◌, ◌⊎◌, ◌<◌, ◌≤◌, true, false, List, [], ◌∷◌, ◌++◌, length, length-append, refl, sym, ap, ◌∙◌, subst, arith}
+use Rattle.std.proofs.Common.{Some, ◌≡◌, Option, ℕ, zero, suc, ◌+◌, ◌-◌, ◌⊎◌, ◌<◌, ◌≤◌, true, false, List, [], length, refl, sym, ap, ◌∙◌, subst, arith}
 use mathlib.Core.Logic.{inl, inr}
 use Rattle.std.specs.Prelude.{slice_index}
 use Rattle.std.proofs.Math.ListN.{get_or-eq_default}
 use Rattle.std.proofs.lemmas.Bool.{cases_lt}
 use Rattle.nm_base.specs.Lists.{bit}
 use Rattle.nm_base.specs.declared.action.Action.{Action}
-use Rattle.msp_isa.specs.declared.code.CodeFn.{CodeFn}
 use Rattle.msp_isa.specs.declared.instr.Instr.TheVariants.{Two}
 use Rattle.msp_isa.specs.declared.instr.Op2.TheVariants.{Mov}
 use Rattle.msp_isa.specs.declared.instr.Operand.TheVariants.{Reg, Increment}
-use Rattle.msp_isa.specs.Stands.{IsLaid, items_of, word_in}
+use Rattle.msp_isa.specs.Stands.{word_in}
 use Rattle.msp430_cpu.specs.Cpu.{Cpu, cpuoff, even, gie, reg}
 use Rattle.open_law.specs.Body.{code_below}
 use Rattle.open_law.specs.Open.{Code as OpenCode, HoldsWords, Open, open_start}
 use Rattle.open_law.specs.Stands.{IsMarked}
-use Rattle.open_law.proofs.Chain.{Chain, ret, step}
+use Rattle.open_law.proofs.Chain.{ret, step}
 use Rattle.open_law.proofs.Quiet.{reg_plain}
 use Rattle.open_law.proofs.View.{Shows, View, cpu_of}
-use Rattle.msp_select.specs.Routine.{Ends, Hold, IsBack, IsGoing, IsRoutineOf, Turns}
+use Rattle.msp_select.specs.Routine.{Ends, Hold, IsBack, IsGoing, Turns}
 use Rattle.msp_select.proofs.Helping.{hold_on}
 use Rattle.msp_select.proofs.Turning.{turns_of}
-use Rattle.msp_runtime.specs.Code.{Code, Registers, IsBounded, depth, is_formed, items_from, leaves, leaves_others, meaning, return, routine_items, weight}
-use Rattle.msp_runtime.proofs.Running.{Good, IsSettled, Next, Reach, SameFrom, Stand, at, both, code_leaves, run, settled_on, sp_on, word_on}
-use Rattle.msp_runtime.proofs.Standing.{all_hold, first_holds, rest_holds, single, stand_at}
+use Rattle.msp_runtime.specs.Code.{Code, Registers, IsBounded, depth, is_formed, leaves, leaves_others, meaning, weight}
+use Rattle.msp_runtime.proofs.Running.{Good, IsSettled, Reach, SameFrom, Stand, at, both, code_leaves, run, settled_on, sp_on, word_on}
 
 -- what a state has that a view shows
 words_of : (top : ℕ) (v : View) (o : Open) → Shows top v o → even v.pc ≡ v.pc → v.pc < 0x10000 → even v.sp ≡ v.sp → v.sr < 0x10000 → HoldsWords o.cpu
@@ -154,18 +152,27 @@ module _ (image : ℕ → ℕ) (data_end : ℕ) (marks : ℕ → List Action) (s
               kept = λ r lo hi. code_leaves c r (others_left c others r lo hi) first;
               result = held;
               few = few;
-            } in
-            (1, omega arith,
-            step image data_end marks sp0 (Good image data_end marks sp0 start objects room within high (IsEnd given)) (λ v w. w.made ≡ v.made) (IsEnd given) 0 v w
-            (record { even_pc = let z = ret_stands.at.even in omega (arith, z); small_pc = let z = ret_stands.at.high in omega (arith, z); unmarked = ret_stands.table;
-              settled = record { gie = s.gie; awake = s.awake; small = s.small; words = s.words; even_sp = s.even_sp; below = s.below; deep = omega (arith, x) }; gate = refl })
-            (ret image data_end marks sp0 v (record { objects = objects; low = omega (arith, x, room); inside = omega (arith, sp, within); high = high; even_sp = s.even_sp }, s.awake, refl) (omega (arith, sp, within)) ret_stands) refl last)
+            } in (
+              1,
+              omega arith,
+              step image data_end marks sp0 (Good image data_end marks sp0 start objects room within high (IsEnd given)) (λ v w. w.made ≡ v.made) (IsEnd given) 0 v w
+                  (record {
+                    even_pc = let z = ret_stands.at.even in omega (arith, z);
+                    small_pc = let z = ret_stands.at.high in omega (arith, z);
+                    unmarked = ret_stands.table;
+                    settled = record { gie = s.gie; awake = s.awake; small = s.small; words = s.words; even_sp = s.even_sp; below = s.below; deep = omega (arith, x) };
+                    gate = refl;
+                  })
+                  (ret image data_end marks sp0 v (record { objects = objects; low = omega (arith, x, room); inside = omega (arith, sp, within); high = high; even_sp = s.even_sp }, s.awake, refl) (omega (arith, sp, within)) ret_stands) refl last,
+            )
 
     pub turns : (n : ℕ) × (n < weight c + 2) × Turns code (IsGoing code start ram) (Ends code start ram (Some given)) n (open_start start ram)
     turns =
         let n = goes.0 in let l = goes.1 in
-        let v = at image data_end marks sp0 start objects room within high (IsEnd given) start.pc first ram in
-        (n, omega (arith, l),
-        turns_of image data_end marks sp0 (Good image data_end marks sp0 start objects room within high (IsEnd given)) (λ v w. w.made ≡ v.made) (IsEnd given) (IsGoing code start ram) (IsBack code start ram given) (is_going (IsEnd given)) (is_back given) (λ v w x. x) (λ v g. g.unmarked)
-        n v (open_start start ram)
-        (record { others = start.others; ram = ram; done = []; same = ap (λ g. record { cpu = record start { gate = g }; ram = ram; done = [] }) level; fits = record { long = words.twelve; regs = λ q lo hi. refl; words = λ q lo hi. words.others (q - 4); stack = λ a lo hi. refl }; bytes = bytes; log = record { made = refl; answers = refl; fault = refl } }) goes.2)
+        let v = at image data_end marks sp0 start objects room within high (IsEnd given) start.pc first ram in (
+          n,
+          omega (arith, l),
+          turns_of image data_end marks sp0 (Good image data_end marks sp0 start objects room within high (IsEnd given)) (λ v w. w.made ≡ v.made) (IsEnd given) (IsGoing code start ram) (IsBack code start ram given) (is_going (IsEnd given)) (is_back given) (λ v w x. x) (λ v g. g.unmarked)
+              n v (open_start start ram)
+              (record { others = start.others; ram = ram; done = []; same = ap (λ g. record { cpu = record start { gate = g }; ram = ram; done = [] }) level; fits = record { long = words.twelve; regs = λ q lo hi. refl; words = λ q lo hi. words.others (q - 4); stack = λ a lo hi. refl }; bytes = bytes; log = record { made = refl; answers = refl; fault = refl } }) goes.2,
+        )

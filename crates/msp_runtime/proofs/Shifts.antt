@@ -1,13 +1,12 @@
 -- Shifts of 16 bits.
-use Rattle.std.proofs.Common.{◌≡◌, ℕ, zero, suc, ◌+◌, ◌-◌, ◌*◌, ◌/◌, ◌%◌, ◌^◌, ◌==◌, ◌<◌, ◌≤◌, Bool, true, false, cond, not, nat_le, nat_lt, [], ◌∷◌, refl, sym, ap, ◌∙◌, subst, arith}
+use Rattle.std.proofs.Common.{◌≡◌, ℕ, suc, ◌+◌, ◌-◌, ◌*◌, ◌/◌, ◌%◌, ◌^◌, ◌<◌, ◌≤◌, Bool, true, false, cond, nat_le, nat_lt, [], ◌∷◌, refl, sym, ap, ◌∙◌, arith}
 use Rattle.std.proofs.lemmas.Bool.Decides.{nat_tests}
 use Rattle.std.proofs.Math.Nat.{pow-suc}
-use Rattle.msp_isa.specs.declared.instr.Cond.TheVariants.{Jne, Jnc, Jc}
 use Rattle.msp_isa.specs.declared.instr.Op2.TheVariants as op2
-use Rattle.msp430_cpu.specs.Operate.{is_taken, operate}
-use Rattle.open_law.specs.Homes.{Made, Number, Of, InRegister, literal}
-use Rattle.msp_runtime.specs.Code.{Code, IsBounded, Registers, Times, done, meaning, repeated}
-use Rattle.msp_runtime.specs.Routines.{add, add_carry, all, copy, fill, fill_if, set, shift_left, shift_right, subtract, where_least}
+use Rattle.msp430_cpu.specs.Operate.{operate}
+use Rattle.open_law.specs.Homes.{Made}
+use Rattle.msp_runtime.specs.Code.{Registers, Times, done}
+use Rattle.msp_runtime.specs.Routines.{add, add_carry, all, copy, set, shift_left, shift_right, subtract, where_least}
 use Rattle.msp_runtime.proofs.Steps.{Ends, at_least, carry_out, does, doubled, doubled_high, loops, nothing, then}
 
 -- ---- to the left

@@ -1,5 +1,5 @@
 -- No routine takes more than 600 instructions, and none more than 60 bytes of stack.
-use Rattle.std.proofs.Common.{Some, None, ◌≡◌, Option, ℕ, ◌+◌, ◌%◌, ◌/◌, ◌≤◌, arith}
+use Rattle.std.proofs.Common.{Some, None, Option, ◌+◌, ◌%◌, ◌/◌, ◌≤◌, arith}
 use Rattle.nm_base.specs.declared.int_type.IntType.{IntType}
 use Rattle.nm_base.specs.declared.int_type.IntType.TheVariants.{I8, U8, I16, U16, I32, U32}
 use Rattle.mid_code.specs.declared.help.HelpOp.{HelpOp}

@@ -1,18 +1,17 @@
 -- Quotients and remainders of signed words of 16 bits.
-use Rattle.std.proofs.Common.{◌≡◌, ℕ, ◌+◌, ◌-◌, ◌%◌, ◌/◌, ◌==◌, ◌<◌, ◌≤◌, Bool, true, false, cond, not, nat_le, [], ◌∷◌, refl, sym, ap, ◌∙◌, arith}
+use Rattle.std.proofs.Common.{◌≡◌, ℕ, ◌+◌, ◌-◌, ◌%◌, ◌/◌, ◌==◌, ◌<◌, ◌≤◌, Bool, true, false, cond, not, nat_le, [], ◌∷◌, refl, ap, ◌∙◌, arith}
 use Rattle.std.proofs.lemmas.Bool.Decides.{nat_tests}
 use Rattle.std.proofs.Math.Nat.{div-le_self, mod-le}
 use Rattle.msp_isa.specs.declared.instr.Cond.TheVariants.{Jne}
 use Rattle.msp_isa.specs.declared.instr.Op2.TheVariants.{Add, Cmp}
-use Rattle.msp430_cpu.specs.Operate.{is_taken, operate}
 use Rattle.open_law.specs.Homes.{literal}
 use Rattle.open_law.proofs.Homes.{flags_zero}
-use Rattle.msp_runtime.specs.Code.{Code, Do, Keeping, Registers, Skip, leaves, meaning, popped}
-use Rattle.msp_runtime.specs.Routines.{all, copy, divide, magnitude, negate, quotient, remainder, set}
+use Rattle.msp_runtime.specs.Code.{Code, Do, Registers, Skip, leaves, meaning}
+use Rattle.msp_runtime.specs.Routines.{all, copy, divide, magnitude, negate, quotient, remainder}
 use Rattle.msp_runtime.proofs.Running.{code_leaves}
 use Rattle.msp_runtime.proofs.Steps.{Ends, at_least, does, keeps, nothing, skips, then}
-use Rattle.msp_runtime.proofs.Divide.{IsDivided, divide_does, quotient_of, remainder_of}
-use Rattle.msp_runtime.proofs.GivenWords.{differs, magnitude_of, negated, signed_by}
+use Rattle.msp_runtime.proofs.Divide.{divide_does, quotient_of, remainder_of}
+use Rattle.msp_runtime.proofs.GivenWords.{differs, magnitude_of, signed_by}
 
 -- what code leaves, with what it does not touch
 onward : {c : Code} {st : Registers} {P Q : Registers → Type 0} → Ends c st P → leaves 11 c ≡ true → ((s : Registers) → P s → s.regs 11 ≡ st.regs 11 → Q s) → Ends c st Q
@@ -68,7 +67,7 @@ quotient_rest : (st : Registers) (a y : ℕ) (one : Bool) → st.regs 12 ≡ a �
 quotient_rest st a y one ea la ey ly ec =
     then (at_least 0x8000 y refl (omega arith) ey ((tt, (tt, (tt, tt))), ((tt, tt), tt))
     (λ le. let t : nat_le 0x8000 y ≡ true = grind (arith, nat_tests) in
-        rw t (by_more one ec (without (st.regs 13) y ey le ly) (omega (arith, le))))
+    rw t (by_more one ec (without (st.regs 13) y ey le ly) (omega (arith, le))))
     (λ lt. let t : nat_le 0x8000 y ≡ false = grind (arith, nat_tests) in rw t (by_less one ec)))
   where
     st' : Registers

@@ -1,5 +1,5 @@
 -- Where a routine's items are laid out, its code stands.
-use Rattle.std.proofs.Common.{◌≡◌, ◌⊎◌, ℕ, zero, suc, ◌+◌, ◌-◌, ◌*◌, ◌/◌, ◌%◌, ◌<◌, ◌≤◌, ◌&&◌, Bool, true, false, List, [], ◌∷◌, ◌++◌, length, length-append, nat_le, refl, sym, ap, ◌∙◌, subst, arith}
+use Rattle.std.proofs.Common.{◌≡◌, ℕ, suc, ◌+◌, ◌-◌, ◌*◌, ◌/◌, ◌%◌, ◌<◌, ◌≤◌, ◌&&◌, Bool, true, false, List, [], ◌∷◌, ◌++◌, length, length-append, nat_le, refl, sym, ap, ◌∙◌, subst, arith}
 use mathlib.Core.Logic.{inl, inr}
 use Rattle.std.specs.Prelude.{pos, negsuc, if◌then◌else◌}
 use Rattle.std.proofs.lemmas.Bool.Decides.{nat_tests}
@@ -11,21 +11,20 @@ use Rattle.msp_isa.specs.declared.instr.Cond.{Cond}
 use Rattle.msp_isa.specs.declared.instr.Cond.TheVariants as jump_if
 use Rattle.msp_isa.specs.declared.instr.Instr.{Instr}
 use Rattle.msp_isa.specs.declared.instr.Instr.TheVariants.{Two, One, Jump as JumpBy, Reti}
-use Rattle.msp_isa.specs.declared.instr.Op1.{Op1}
 use Rattle.msp_isa.specs.declared.instr.Op1.TheVariants as op1
 use Rattle.msp_isa.specs.declared.instr.Op2.{Op2}
 use Rattle.msp_isa.specs.declared.instr.Op2.TheVariants as op2
 use Rattle.msp_isa.specs.declared.instr.Operand.{Operand}
 use Rattle.msp_isa.specs.declared.instr.Operand.TheVariants.{Reg, Indexed, Absolute, Indirect, Increment, Immediate, Constant}
 use Rattle.msp_isa.specs.Encode.{encoded}
-use Rattle.msp_isa.specs.Stands.{AreAt, IsAt, IsLaid, LeadsTo, goto, instructions, item_at, items_of, reversed, words_to}
+use Rattle.msp_isa.specs.Stands.{AreAt, IsLaid, LeadsTo, goto, instructions, item_at, items_of, reversed, words_to}
 use Rattle.msp430_cpu.specs.Cpu.{even}
 use Rattle.msp430_cpu.specs.Exec.{further, jumped}
 use Rattle.open_law.specs.Homes.{Source, Made, operand_of}
-use Rattle.open_law.specs.Stands.{IsMarked, JumpsTo}
+use Rattle.open_law.specs.Stands.{IsMarked}
 use Rattle.msp_select.proofs.Doing.{size_one, size_two}
-use Rattle.msp_runtime.specs.Code.{Code, Nothing, Do, Then, Skip, Times, Keeping, is_formed, is_general, is_operand, is_short, is_straight, items_from, labels, leaves, operation_item, return, routine_items}
-use Rattle.msp_runtime.proofs.Running.{Does, IsFar, Jumps, Stand, both}
+use Rattle.msp_runtime.specs.Code.{Code, Nothing, Do, Then, Skip, Times, Keeping, is_formed, is_general, is_short, is_straight, items_from, labels, leaves, operation_item}
+use Rattle.msp_runtime.proofs.Running.{Does, Jumps, Stand, both}
 
 -- these items are those of a function from a place on
 abbrev pub Holds : List Item → (k : ℕ) → List Item → Type 0
@@ -191,10 +190,12 @@ module _ (image : ℕ → ℕ) (data_end : ℕ) (marks : ℕ → List Action) (s
     stand_at (Do op s r) k l g h at = subst (λ n. Does image data_end marks sp0 (place k) (place n) op s r) (let z : suc k ≡ k + 1 = omega arith in z) (does_at k op s r h.0 h.1)
     stand_at (Then a b) k l g h at =
         let t = both (is_formed a) (is_formed b) g in
-        let xs = items_from a l in let ys = items_from b (l + labels a) in
-        (place (k + length xs), stand_at a k l t.0 (first_holds items k xs ys h) at,
-        subst (λ n. Stand image data_end marks sp0 b (place (k + length xs)) (place n)) (let e = length-append xs ys in let z : k + length xs + length ys ≡ k + length (xs ++ ys) = omega (arith, e) in z)
-        (stand_at b (k + length xs) (l + labels a) t.1 (rest_holds items k xs ys h) (placed_at a k l (first_holds items k xs ys h) at)))
+        let xs = items_from a l in let ys = items_from b (l + labels a) in (
+          place (k + length xs),
+          stand_at a k l t.0 (first_holds items k xs ys h) at,
+          subst (λ n. Stand image data_end marks sp0 b (place (k + length xs)) (place n)) (let e = length-append xs ys in let z : k + length xs + length ys ≡ k + length (xs ++ ys) = omega (arith, e) in z)
+              (stand_at b (k + length xs) (l + labels a) t.1 (rest_holds items k xs ys h) (placed_at a k l (first_holds items k xs ys h) at)),
+        )
     stand_at (Skip c a) k l g h at =
         let t = both (is_short c) (is_formed a) g in
         let xs = items_from a (suc l) in
@@ -222,12 +223,17 @@ module _ (image : ℕ → ℕ) (data_end : ℕ) (marks : ℕ → List Action) (s
         let inner = placed_at a (suc (suc (suc k))) (suc (suc l)) holds third in
         let last = placed_jump (suc n) (suc (suc k)) jump_if.Jne (suc l) behind.2.0 behind.2.1 h.2.2.1 (placed_is n (Two op2.Sub false (operand_of (Made 1)) (Reg r)) behind.0 behind.1 inner) in
         let end : place (suc (suc n)) ≡ place (k + length (items_from (Times most r a) l)) = label_at (suc (suc n)) l behind.2.2.0 behind.2.2.1 ∙ ap place (let e = length-append xs tail in let z : suc (suc (suc n)) ≡ k + suc (suc (suc (length (xs ++ tail)))) = omega (arith, e) in z) in
-        subst (λ e. Stand image data_end marks sp0 (Times most r a) (place k) e) end
-        (place (suc k), place (suc (suc k)), place n, place (suc n), does_at k op2.Cmp (Made 0) r h.0 h.1,
-        jumps_at (suc k) (suc (suc n)) jump_if.Jeq l refl h.2.0 last h.2.1 behind.2.2.1,
-        subst (λ p. Stand image data_end marks sp0 a p (place n)) (sym head) (stand_at a (suc (suc (suc k))) (suc (suc l)) w.1 holds third),
-        does_at n op2.Sub (Made 1) r behind.0 behind.1,
-        subst (λ e. Jumps image data_end marks sp0 (place (suc n)) (place (suc (suc k))) e jump_if.Jne) refl (jumps_at (suc n) (suc (suc k)) jump_if.Jne (suc l) refl behind.2.0 second behind.2.1 h.2.2.1))
+        subst (λ e. Stand image data_end marks sp0 (Times most r a) (place k) e) end (
+          place (suc k),
+          place (suc (suc k)),
+          place n,
+          place (suc n),
+          does_at k op2.Cmp (Made 0) r h.0 h.1,
+          jumps_at (suc k) (suc (suc n)) jump_if.Jeq l refl h.2.0 last h.2.1 behind.2.2.1,
+          subst (λ p. Stand image data_end marks sp0 a p (place n)) (sym head) (stand_at a (suc (suc (suc k))) (suc (suc l)) w.1 holds third),
+          does_at n op2.Sub (Made 1) r behind.0 behind.1,
+          subst (λ e. Jumps image data_end marks sp0 (place (suc n)) (place (suc (suc k))) e jump_if.Jne) refl (jumps_at (suc n) (suc (suc k)) jump_if.Jne (suc l) refl behind.2.0 second behind.2.1 h.2.2.1),
+        )
     stand_at (Keeping r a) k l g h at =
         let t = both (is_general r) (is_formed a) g in
         let xs = items_from a l in
@@ -242,7 +248,10 @@ module _ (image : ℕ → ℕ) (data_end : ℕ) (marks : ℕ → List Action) (s
         let up1 : place (suc n) ≡ place n + 4 = ap place (let q : suc n ≡ n + 1 = omega arith in q) ∙ sym y.1 in
         let e = length-append xs tail in
         let up2 : place (suc n + 1) ≡ place (k + length (items_from (Keeping r a) l)) = ap place (omega (arith, e)) in (
-          place n, x.0, subst (λ p. Stand image data_end marks sp0 a p (place n)) up (stand_at a (suc k) l t.1 (first_holds items (suc k) xs tail h.2) (placed_is k (One op1.Push false (Reg r)) h.0 h.1 at)), y.0,
+          place n,
+          x.0,
+          subst (λ p. Stand image data_end marks sp0 a p (place n)) up (stand_at a (suc k) l t.1 (first_holds items (suc k) xs tail h.2) (placed_is k (One op1.Push false (Reg r)) h.0 h.1 at)),
+          y.0,
           subst (λ p. IsMarked image marks p [] (Two op2.Add false (Constant 2) (Reg 1))) up1 z.0,
           (let q : place n + 6 ≡ place n + 4 + 2 = omega arith in q) ∙ ap (λ m. m + 2) (sym up1) ∙ z.1 ∙ up2,
         )

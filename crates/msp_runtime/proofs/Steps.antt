@@ -1,15 +1,14 @@
 -- What the steps of routines leave: carries as numbers, comparisons as conditions.
-use Rattle.std.proofs.Common.{◌≡◌, ℕ, zero, suc, ◌+◌, ◌-◌, ◌*◌, ◌/◌, ◌%◌, ◌^◌, ◌==◌, ◌<◌, ◌≤◌, Bool, true, false, cond, not, nat_le, nat_lt, subst, refl, sym, ap, ◌∙◌, arith}
+use Rattle.std.proofs.Common.{◌≡◌, ℕ, zero, suc, ◌+◌, ◌-◌, ◌*◌, ◌/◌, ◌%◌, ◌<◌, ◌≤◌, Bool, true, false, cond, not, nat_le, subst, refl, sym, ap, ◌∙◌, arith}
 use Rattle.std.proofs.lemmas.Bool.Decides.{nat_tests}
-use Rattle.std.proofs.Math.Nat.{pow-suc}
 use Rattle.nm_base.specs.Lists.{bit, number_of}
-use Rattle.msp_isa.specs.declared.instr.Cond.TheVariants.{Jne, Jnc, Jc}
+use Rattle.msp_isa.specs.declared.instr.Cond.TheVariants.{Jnc, Jc}
 use Rattle.msp_isa.specs.declared.instr.Cond.{Cond}
 use Rattle.msp_isa.specs.declared.instr.Op2.{Op2}
 use Rattle.msp_isa.specs.declared.instr.Op2.TheVariants as op2
 use Rattle.msp430_cpu.specs.Operate.{is_taken, operate, with_flags}
 use Rattle.open_law.specs.Homes.{Source, Made, literal}
-use Rattle.open_law.proofs.Homes.{flags_carry, flags_zero}
+use Rattle.open_law.proofs.Homes.{flags_carry}
 use Rattle.msp_runtime.specs.Code.{Code, Nothing, Do, Then, Skip, Times, Keeping, IsBounded, Registers, done, meaning, popped, pushed, repeated, value_of}
 use Rattle.msp_runtime.specs.Routines.{where_below, where_least}
 

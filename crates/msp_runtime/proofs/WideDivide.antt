@@ -3,7 +3,7 @@ use Rattle.std.proofs.Common.{◌≡◌, ◌≢◌, ◌⊎◌, ℕ, zero, suc, �
 use mathlib.Core.Logic.{inl, inr}
 use Rattle.std.proofs.lemmas.Bool.{cases_lt, ne_eqb}
 use Rattle.std.proofs.lemmas.Bool.Decides.{eqb_tells, nat_tests}
-use Rattle.std.proofs.lemmas.Nat.{div-mul-add, le_or_l, le_or_r, mod-mul-add, mul-le}
+use Rattle.std.proofs.lemmas.Nat.{le_or_l, le_or_r, mul-le}
 use Rattle.std.proofs.Math.Nat.{div-eq_of_lt, mod-eq_of_lt, pow-suc}
 use Rattle.nm_base.specs.Lists.{bit}
 use Rattle.msp_isa.specs.declared.instr.Cond.TheVariants.{Jc, Jnc, Jne}
@@ -97,23 +97,59 @@ module _ (x d0 d1 j b q t behind a0 a1 c0 c1 : ℕ) (ld0 : d0 < 0x10000) (ld1 : 
   second : (s : Registers) (is_more : Bool) → is_taken Jnc s.sr ≡ not is_more → (is_more ≡ true → d ≤ t) → (is_more ≡ false → t < d) → Facts s → Ends last s (λ s'. Dividing x d0 d1 j (done op2.Sub (Made 1) 9 s').regs)
   second s is_more e more less f = then (skips (tt, (tt, (tt, tt))) (not is_more) e
       (λ n. let lt = less (from_true is_more n) in nothing (record {
-        bits = b; quotient = q + q; behind = behind + behind; n0 = a0; n1 = a1; r0 = c0; r1 = c1; s12 = f.e12; s13 = f.e13; s14 = f.e14; s15 = f.e15; s10 = f.e10; s11 = f.e11; ln0 = la0; ln1 = la1; lr0 = lc0; lr1 = lc1;
-        held = held; less = omega (arith, remains, lt, ld0, ld1); few = few; few_quotient = omega (arith, few_q); whole = whole;
+        bits = b;
+        quotient = q + q;
+        behind = behind + behind;
+        n0 = a0;
+        n1 = a1;
+        r0 = c0;
+        r1 = c1;
+        s12 = f.e12;
+        s13 = f.e13;
+        s14 = f.e14;
+        s15 = f.e15;
+        s10 = f.e10;
+        s11 = f.e11;
+        ln0 = la0;
+        ln1 = la1;
+        lr0 = lc0;
+        lr1 = lc1;
+        held = held;
+        less = omega (arith, remains, lt, ld0, ld1);
+        few = few;
+        few_quotient = omega (arith, few_q);
+        whole = whole;
         is = less_again x (d * q) q d t (2 ^ j) b refl is ∙ ap (λ z. (d * (q + q) + z) * 2 ^ j + b) (let z : t ≡ wide c0 c1 = omega (arith, remains, lt, ld0, ld1) in z);
       }))
       (λ n. let le = more (from_false is_more n) in
-          let s1 = done op2.Sub (register 14) 10 s in
-          let v : s.regs 10 + (0x10000 - 1 - s.regs 14) + 1 ≡ c0 + (0x10000 - 1 - d0) + 1 = ap (λ z. z + (0x10000 - 1 - s.regs 14) + 1) f.e10 ∙ ap (λ z. c0 + (0x10000 - 1 - z) + 1) f.e14 in
-          let carry : s1.sr % 2 ≡ k = carry_out s.sr (s.regs 10 + (0x10000 - 1 - s.regs 14) + 1) _ _ _ (omega (arith, v, lc0)) ∙ ap (λ z. z / 0x10000) v in
-          nothing (record {
-            bits = b; quotient = q + q + 1; behind = behind + behind; n0 = a0 + 1; n1 = a1; r0 = m0; r1 = m1;
-            s12 = ap (λ z. (z + 1 + 0) % 0x10000) f.e12 ∙ (let z : (a0 + 1 + 0) % 0x10000 ≡ a0 + 1 = omega (arith, is_even, la0) in z); s13 = f.e13; s14 = f.e14; s15 = f.e15;
-            s10 = ap (λ z. z % 0x10000) v;
-            s11 = ap (λ z. (z + (0x10000 - 1 - s.regs 15) + s1.sr % 2) % 0x10000) f.e11 ∙ ap (λ z. (c1 + (0x10000 - 1 - z) + s1.sr % 2) % 0x10000) f.e15 ∙ ap (λ z. (c1 + (0x10000 - 1 - d1) + z) % 0x10000) carry;
-            ln0 = omega (arith, is_even, la0); ln1 = la1; lr0 = omega arith; lr1 = omega arith;
-            held = omega (arith, held); less = (let z = difference le in omega (arith, z, small_t, le)); few = few; few_quotient = omega (arith, few_q); whole = whole;
-            is = taken_off x (d * q) q d t (2 ^ j) b refl le is ∙ ap (λ z. (d * (q + q + 1) + z) * 2 ^ j + b) (sym (difference le));
-          })))
+      let s1 = done op2.Sub (register 14) 10 s in
+      let v : s.regs 10 + (0x10000 - 1 - s.regs 14) + 1 ≡ c0 + (0x10000 - 1 - d0) + 1 = ap (λ z. z + (0x10000 - 1 - s.regs 14) + 1) f.e10 ∙ ap (λ z. c0 + (0x10000 - 1 - z) + 1) f.e14 in
+      let carry : s1.sr % 2 ≡ k = carry_out s.sr (s.regs 10 + (0x10000 - 1 - s.regs 14) + 1) _ _ _ (omega (arith, v, lc0)) ∙ ap (λ z. z / 0x10000) v in
+      nothing (record {
+        bits = b;
+        quotient = q + q + 1;
+        behind = behind + behind;
+        n0 = a0 + 1;
+        n1 = a1;
+        r0 = m0;
+        r1 = m1;
+        s12 = ap (λ z. (z + 1 + 0) % 0x10000) f.e12 ∙ (let z : (a0 + 1 + 0) % 0x10000 ≡ a0 + 1 = omega (arith, is_even, la0) in z);
+        s13 = f.e13;
+        s14 = f.e14;
+        s15 = f.e15;
+        s10 = ap (λ z. z % 0x10000) v;
+        s11 = ap (λ z. (z + (0x10000 - 1 - s.regs 15) + s1.sr % 2) % 0x10000) f.e11 ∙ ap (λ z. (c1 + (0x10000 - 1 - z) + s1.sr % 2) % 0x10000) f.e15 ∙ ap (λ z. (c1 + (0x10000 - 1 - d1) + z) % 0x10000) carry;
+        ln0 = omega (arith, is_even, la0);
+        ln1 = la1;
+        lr0 = omega arith;
+        lr1 = omega arith;
+        held = omega (arith, held);
+        less = (let z = difference le in omega (arith, z, small_t, le));
+        few = few;
+        few_quotient = omega (arith, few_q);
+        whole = whole;
+        is = taken_off x (d * q) q d t (2 ^ j) b refl le is ∙ ap (λ z. (d * (q + q + 1) + z) * 2 ^ j + b) (sym (difference le));
+      })))
 
   -- where nothing was carried out, the halves are compared
   halves : t < 0x100000000 → (s : Registers) → Facts s → Ends (all (compare 15 11 ∷ Skip Jne (compare 14 10) ∷ [])) s (λ s'. Ends last s' (λ s''. Dividing x d0 d1 j (done op2.Sub (Made 1) 9 s'').regs))
@@ -213,7 +249,8 @@ divide_turn x d0 d1 ld0 ld1 j s g = by (cases_lt g.bits p)
           e14 = g.s14;
           e15 = g.s15;
           e10 = ap (λ z. z % 0x10000) (sum_carried (s.regs 10) (s.regs 10) (s2.sr % 2) r0 r0 k2 g.s10 g.s10 e2);
-          e11 = ap (λ z. z % 0x10000) top })
+          e11 = ap (λ z. z % 0x10000) top;
+        })
         (flags_carry _ _ _ _ _ ∙ ap (nat_le 0x10000) top ∙ carry)))))))))
       where
         carries : (r0 r1 k c : ℕ) → r0 < 0x10000 → k ≡ c → nat_le 0x10000 (r1 + r1 + (r0 + r0 + k) / 0x10000) ≡ nat_le 0x100000000 (wide r0 r1 + wide r0 r1 + c)
@@ -263,16 +300,52 @@ by_other : (st : Registers) (x0 x1 d0 d1 y e : ℕ) → st.regs 12 ≡ x0 → x0
 by_other st x0 x1 d0 d1 y e e12 l12 e13 l13 e14 l14 e15 l15 some eq er =
     let x = wide x0 x1 in
     then (does (then (does (then (does (then (loops (Dividing x d0 d1) 32 refl (omega arith)
-    (record { bits = x; quotient = 0; behind = 1; n0 = x0; n1 = x1; r0 = 0; r1 = 0; s12 = e12; s13 = e13; s14 = e14; s15 = e15; s10 = refl; s11 = refl; ln0 = l12; ln1 = l13; lr0 = omega arith; lr1 = omega arith;
-      held = omega arith; less = some; few = omega (arith, l12, l13); few_quotient = omega arith; whole = refl; is = omega arith })
+    (record {
+      bits = x;
+      quotient = 0;
+      behind = 1;
+      n0 = x0;
+      n1 = x1;
+      r0 = 0;
+      r1 = 0;
+      s12 = e12;
+      s13 = e13;
+      s14 = e14;
+      s15 = e15;
+      s10 = refl;
+      s11 = refl;
+      ln0 = l12;
+      ln1 = l13;
+      lr0 = omega arith;
+      lr1 = omega arith;
+      held = omega arith;
+      less = some;
+      few = omega (arith, l12, l13);
+      few_quotient = omega arith;
+      whole = refl;
+      is = omega arith;
+    })
     (divide_turn x d0 d1 l14 l15)
     (λ s g. nothing (
-        let none : g.bits ≡ 0 = let f = g.few in omega (arith, f) in
-        let i : x ≡ wide d0 d1 * g.quotient + wide g.r0 g.r1 = let e = g.is in omega (arith, e, none) in
-        let u = divided x (wide d0 d1) g.quotient (wide g.r0 g.r1) g.less i in
-        record { q0 = g.n0; q1 = g.n1; r0 = g.r0; r1 = g.r1; s12 = g.s12; s13 = g.s13; s10 = g.s10; s11 = g.s11; lq0 = g.ln0; lq1 = g.ln1; lr0 = g.lr0; lr1 = g.lr1;
-          quotient = g.held ∙ ap (λ m. m * g.behind + g.quotient) none ∙ (let z : 0 * g.behind + g.quotient ≡ g.quotient = omega arith in z) ∙ u.0 ∙ eq;
-          remainder = u.1 ∙ er })))))))))
+    let none : g.bits ≡ 0 = let f = g.few in omega (arith, f) in
+    let i : x ≡ wide d0 d1 * g.quotient + wide g.r0 g.r1 = let e = g.is in omega (arith, e, none) in
+    let u = divided x (wide d0 d1) g.quotient (wide g.r0 g.r1) g.less i in
+    record {
+      q0 = g.n0;
+      q1 = g.n1;
+      r0 = g.r0;
+      r1 = g.r1;
+      s12 = g.s12;
+      s13 = g.s13;
+      s10 = g.s10;
+      s11 = g.s11;
+      lq0 = g.ln0;
+      lq1 = g.ln1;
+      lr0 = g.lr0;
+      lr1 = g.lr1;
+      quotient = g.held ∙ ap (λ m. m * g.behind + g.quotient) none ∙ (let z : 0 * g.behind + g.quotient ≡ g.quotient = omega arith in z) ∙ u.0 ∙ eq;
+      remainder = u.1 ∙ er;
+    })))))))))
 
 pub divide_wide_does : (st : Registers) (x0 x1 d0 d1 : ℕ) → st.regs 12 ≡ x0 → x0 < 0x10000 → st.regs 13 ≡ x1 → x1 < 0x10000 → st.regs 14 ≡ d0 → d0 < 0x10000 → st.regs 15 ≡ d1 → d1 < 0x10000 → Ends divide_wide st (IsDivided (wide x0 x1) (wide d0 d1))
 divide_wide_does st x0 x1 d0 d1 e12 l12 e13 l13 e14 l14 e15 l15 =
@@ -281,9 +354,9 @@ divide_wide_does st x0 x1 d0 d1 e12 l12 e13 l13 e14 l14 e15 l15 =
     let a = le_or_l d0 d1 in let b = le_or_r d0 d1 in
     then (does (then (does (then (is_below 1 (bit_or d0 d1) refl (omega arith) both (tt, (tt, (tt, tt)))
     (λ lt. let z : (d == 0) ≡ true = let n : d ≡ 0 = omega (arith, lt, a, b) in ap (λ m. m == 0) n in
-        by_other _ 0 0 1 d1 x d refl (omega arith) refl (omega arith) refl (omega arith) e15 l15 (omega arith) (none_quotient d1 ∙ ap (λ b. cond b 0 (x / d)) (sym z)) (none_remainder d1 ∙ ap (λ b. cond b 0 (x % d)) (sym z)))
+    by_other _ 0 0 1 d1 x d refl (omega arith) refl (omega arith) refl (omega arith) e15 l15 (omega arith) (none_quotient d1 ∙ ap (λ b. cond b 0 (x / d)) (sym z)) (none_remainder d1 ∙ ap (λ b. cond b 0 (x % d)) (sym z)))
     (λ le. let some : 0 < d = positive d0 d1 le in let z : (d == 0) ≡ false = grind (arith, nat_tests) in
-        by_other _ x0 x1 d0 d1 x d e12 l12 e13 l13 e14 l14 e15 l15 some (ap (λ b. cond b 0 (x / d)) (sym z)) (ap (λ b. cond b 0 (x % d)) (sym z))))))))
+    by_other _ x0 x1 d0 d1 x d e12 l12 e13 l13 e14 l14 e15 l15 some (ap (λ b. cond b 0 (x / d)) (sym z)) (ap (λ b. cond b 0 (x % d)) (sym z))))))))
   where
     none_quotient : (h : ℕ) → wide 0 0 / wide 1 h ≡ 0
     none_quotient h = div-eq_of_lt (omega arith)

@@ -1,14 +1,14 @@
 -- Products and shifts of 32 bits.
-use Rattle.std.proofs.Common.{◌≡◌, ℕ, zero, suc, ◌+◌, ◌-◌, ◌*◌, ◌/◌, ◌%◌, ◌^◌, ◌==◌, ◌<◌, ◌≤◌, Bool, true, false, cond, not, nat_le, nat_lt, [], ◌∷◌, refl, sym, ap, ◌∙◌, arith}
+use Rattle.std.proofs.Common.{◌≡◌, ℕ, suc, ◌+◌, ◌*◌, ◌/◌, ◌%◌, ◌^◌, ◌<◌, ◌≤◌, true, false, cond, not, nat_le, nat_lt, [], ◌∷◌, refl, sym, ap, ◌∙◌, arith}
 use Rattle.std.proofs.lemmas.Bool.Decides.{nat_tests}
 use Rattle.std.proofs.Math.Nat.{pow-suc}
 use Rattle.msp_isa.specs.declared.instr.Cond.TheVariants.{Jnc}
 use Rattle.msp_isa.specs.declared.instr.Op2.TheVariants as op2
-use Rattle.msp430_cpu.specs.Operate.{is_taken, operate}
+use Rattle.msp430_cpu.specs.Operate.{operate}
 use Rattle.open_law.specs.Homes.{InRegister, Made, Of}
 use Rattle.open_law.proofs.Homes.{flags_carry}
-use Rattle.msp_runtime.specs.Code.{Code, Registers, Skip, Times, done, meaning}
-use Rattle.msp_runtime.specs.Routines.{add, add_carry, all, copy, multiply_wide, right_turns_wide, set, shift_left_wide, shift_right_wide, subtract, where_least}
+use Rattle.msp_runtime.specs.Code.{Code, Registers, Skip, Times, done}
+use Rattle.msp_runtime.specs.Routines.{add, add_carry, all, multiply_wide, shift_left_wide}
 use Rattle.msp_runtime.proofs.Steps.{Ends, at_least, carry_out, does, keeps, loops, nothing, skips, then}
 
 -- a number from its halves
@@ -97,11 +97,41 @@ turn al ah result lal lah j s g =
     let back = ap (λ y. (sum * y + a * (rest * y / 0x100000000)) % 0x100000000) power ∙ g.goal in
     then (does (then (does (then (does (then (does (then (skips (tt, (tt, tt)) (not (nat_le 0x10000 (rh + rh + cr))) (ap not (flags_carry _ _ _ _ _ ∙ ap (nat_le 0x10000) t15))
     (λ t. let under : rh + rh + cr < 0x10000 = grind (arith, nat_tests) in
-        nothing (record { sl = tl; sh = th; rl = ul; rh = uh; s12 = e12; s13 = e13; s14 = e14; s15 = e15; s10 = g.s10; s11 = g.s11; lsl = omega arith; lsh = omega arith; lrl = omega arith; lrh = omega arith;
-          goal = kept sum a p x ((sh + sh + cs) / 0x10000) twice (omega (arith, l1, l2)) ∙ ap (λ y. (sum * (p * 2) + a * y) % 0x100000000) (sym (bit_out rest p rest' (omega (arith, under, l3, l4)))) ∙ back }))
+    nothing (record {
+      sl = tl;
+      sh = th;
+      rl = ul;
+      rh = uh;
+      s12 = e12;
+      s13 = e13;
+      s14 = e14;
+      s15 = e15;
+      s10 = g.s10;
+      s11 = g.s11;
+      lsl = omega arith;
+      lsh = omega arith;
+      lrl = omega arith;
+      lrh = omega arith;
+      goal = kept sum a p x ((sh + sh + cs) / 0x10000) twice (omega (arith, l1, l2)) ∙ ap (λ y. (sum * (p * 2) + a * y) % 0x100000000) (sym (bit_out rest p rest' (omega (arith, under, l3, l4)))) ∙ back;
+    }))
     (λ t. let over : 0x10000 ≤ rh + rh + cr = grind (arith, nat_tests) in
-        nothing (record { sl = vl; sh = vh; rl = ul; rh = uh; s12 = f12; s13 = f13; s14 = e14; s15 = e15; s10 = g.s10; s11 = g.s11; lsl = omega arith; lsh = omega arith; lrl = omega arith; lrh = omega arith;
-          goal = added sum a p x ((sh + sh + cs) / 0x10000 + (th + ah + cv) / 0x10000) sum' (omega (arith, l1, l2, lal, lah)) ∙ ap (λ y. (sum * (p * 2) + a * y) % 0x100000000) (sym (bit_in rest p rest' (omega (arith, over, l3, l4)))) ∙ back })))))))))))
+    nothing (record {
+      sl = vl;
+      sh = vh;
+      rl = ul;
+      rh = uh;
+      s12 = f12;
+      s13 = f13;
+      s14 = e14;
+      s15 = e15;
+      s10 = g.s10;
+      s11 = g.s11;
+      lsl = omega arith;
+      lsh = omega arith;
+      lrl = omega arith;
+      lrh = omega arith;
+      goal = added sum a p x ((sh + sh + cs) / 0x10000 + (th + ah + cv) / 0x10000) sum' (omega (arith, l1, l2, lal, lah)) ∙ ap (λ y. (sum * (p * 2) + a * y) % 0x100000000) (sym (bit_in rest p rest' (omega (arith, over, l3, l4)))) ∙ back;
+    })))))))))))
 
 -- R12 and R13 hold the halves of a number
 pub record IsWideNumber (r : ℕ) (s : Registers) : Type 0 where
@@ -119,12 +149,34 @@ pub multiply_wide_does : (st : Registers) (x0 x1 y0 y1 : ℕ) → st.regs 12 ≡
 multiply_wide_does st x0 x1 y0 y1 e12 l12 e13 l13 e14 l14 e15 l15 =
     let x = wide x0 x1 in let y = wide y0 y1 in
     keeps (keeps (keeps (then (does (then (does (then (does (then (does (then (does (then (loops (Adding x0 x1 ((x * y) % 0x100000000)) 32 refl (omega arith)
-    (record { sl = 0; sh = 0; rl = y0; rh = y1; s12 = refl; s13 = refl; s14 = e14; s15 = e15; s10 = e12; s11 = e13; lsl = omega arith; lsh = omega arith; lrl = l14; lrh = l15;
-      goal = (let z : y * 0x100000000 / 0x100000000 ≡ y = omega arith in ap (λ n. (0 * 0x100000000 + x * n) % 0x100000000) z ∙ omega arith) })
+    (record {
+      sl = 0;
+      sh = 0;
+      rl = y0;
+      rh = y1;
+      s12 = refl;
+      s13 = refl;
+      s14 = e14;
+      s15 = e15;
+      s10 = e12;
+      s11 = e13;
+      lsl = omega arith;
+      lsh = omega arith;
+      lrl = l14;
+      lrh = l15;
+      goal = (let z : y * 0x100000000 / 0x100000000 ≡ y = omega arith in ap (λ n. (0 * 0x100000000 + x * n) % 0x100000000) z ∙ omega arith);
+    })
     (turn x0 x1 ((x * y) % 0x100000000) l12 l13)
-    (λ s g. nothing (record { low = g.sl; high = g.sh; in_12 = g.s12; in_13 = g.s13; small = g.lsl; small_high = g.lsh;
+    (λ s g. nothing (record {
+      low = g.sl;
+      high = g.sh;
+      in_12 = g.s12;
+      in_13 = g.s13;
+      small = g.lsl;
+      small_high = g.lsh;
       is = (let a = g.lsl in let b = g.lsh in let c = g.lrl in let d = g.lrh in let z : wide g.rl g.rh * 1 / 0x100000000 ≡ 0 = omega (arith, c, d) in
-        sym (ap (λ n. (wide g.sl g.sh * 1 + x * n) % 0x100000000) z ∙ omega (arith, a, b))) ∙ g.goal }))))))))))))))))
+          sym (ap (λ n. (wide g.sl g.sh * 1 + x * n) % 0x100000000) z ∙ omega (arith, a, b))) ∙ g.goal;
+    }))))))))))))))))
 
 -- ---- shifts to the left
 
@@ -143,11 +195,14 @@ left_turn result j s g =
     let c = (low + low + 0) / 0x10000 in
     let c1 : (done op2.Add (Of (InRegister 12)) 12 s).sr % 2 ≡ c = carry_add s.sr (s.regs 12) (s.regs 12) low low g.s12 g.s12 l1 l1 in
     then (does (then (does (nothing (record {
-      low = (low + low + 0) % 0x10000; high = (high + high + c) % 0x10000;
+      low = (low + low + 0) % 0x10000;
+      high = (high + high + c) % 0x10000;
       s12 = ap (λ n. (n + n + 0) % 0x10000) g.s12;
       s13 = ap (λ n. n % 0x10000) (sum_carried (s.regs 13) (s.regs 13) ((done op2.Add (Of (InRegister 12)) 12 s).sr % 2) high high c g.s13 g.s13 c1);
-      small = omega arith; small_high = omega arith;
-      goal = doubled_wide (wide low high) (wide ((low + low + 0) % 0x10000) ((high + high + c) % 0x10000)) (2 ^ j) ((high + high + c) / 0x10000) (omega (arith, l1, l2)) ∙ ap (λ n. (wide low high * n) % 0x100000000) (sym (pow-suc 2 j)) ∙ g.goal })))))
+      small = omega arith;
+      small_high = omega arith;
+      goal = doubled_wide (wide low high) (wide ((low + low + 0) % 0x10000) ((high + high + c) % 0x10000)) (2 ^ j) ((high + high + c) / 0x10000) (omega (arith, l1, l2)) ∙ ap (λ n. (wide low high * n) % 0x100000000) (sym (pow-suc 2 j)) ∙ g.goal;
+    })))))
 
 left_rest : (st : Registers) (low high n result : ℕ) → st.regs 12 ≡ low → low < 0x10000 → st.regs 13 ≡ high → high < 0x10000 → st.regs 14 ≡ n → n ≤ 31 → (wide low high * 2 ^ n) % 0x100000000 ≡ result →
     Ends (all (Times 31 14 (all (add 12 12 ∷ add_carry 13 13 ∷ [])) ∷ [])) st (IsWideNumber result)
@@ -198,10 +253,17 @@ right_turn result j s g =
     let e3 : s3.sr % 2 ≡ k3 = carry_addc s2.sr (s.regs 10) 0 c k2 g.s10 e2 lc (omega (arith, la, lb)) in
     let whole : wide a' b' + 0x100000000 * wide c' d' + k4 * 0x10000000000000000 ≡ (wide a b + 0x100000000 * wide c d) + (wide a b + 0x100000000 * wide c d) = omega (arith, la, lb, lc, ld) in
     then (does (then (does (then (does (then (does (nothing (record {
-      a = a'; b = b'; c = c'; d = d';
+      a = a';
+      b = b';
+      c = c';
+      d = d';
       s12 = ap (λ n. (n + n + 0) % 0x10000) g.s12;
       s13 = ap (λ n. n % 0x10000) (sum_carried (s.regs 13) (s.regs 13) (s1.sr % 2) b b k1 g.s13 g.s13 e1);
       s10 = ap (λ n. n % 0x10000) (sum_carried (s.regs 10) (s.regs 10) (s2.sr % 2) c c k2 g.s10 g.s10 e2);
       s11 = ap (λ n. n % 0x10000) (sum_carried (s.regs 11) (s.regs 11) (s3.sr % 2) d d k3 g.s11 g.s11 e3);
-      la = omega arith; lb = omega arith; lc = omega arith; ld = omega arith;
-      goal = doubled_long (wide a b + 0x100000000 * wide c d) (wide a' b' + 0x100000000 * wide c' d') (2 ^ j) k4 whole ∙ ap (λ n. ((wide a b + 0x100000000 * wide c d) * n / 0x100000000) % 0x100000000) (sym (pow-suc 2 j)) ∙ g.goal })))))))))
+      la = omega arith;
+      lb = omega arith;
+      lc = omega arith;
+      ld = omega arith;
+      goal = doubled_long (wide a b + 0x100000000 * wide c d) (wide a' b' + 0x100000000 * wide c' d') (2 ^ j) k4 whole ∙ ap (λ n. ((wide a b + 0x100000000 * wide c d) * n / 0x100000000) % 0x100000000) (sym (pow-suc 2 j)) ∙ g.goal;
+    })))))))))

@@ -1,13 +1,13 @@
 -- Shifts of 32 bits to the right, and what helpers give of 32 bits.
-use Rattle.std.proofs.Common.{◌≡◌, ℕ, zero, suc, ◌+◌, ◌-◌, ◌*◌, ◌/◌, ◌%◌, ◌^◌, ◌==◌, ◌<◌, ◌≤◌, Bool, true, false, cond, nat_le, nat_lt, [], ◌∷◌, refl, sym, ap, ◌∙◌, arith}
-use Rattle.std.specs.Prelude.{ℤ, pos, negsuc}
+use Rattle.std.proofs.Common.{◌≡◌, ℕ, zero, suc, ◌+◌, ◌-◌, ◌*◌, ◌/◌, ◌%◌, ◌^◌, ◌<◌, ◌≤◌, Bool, true, false, cond, nat_le, nat_lt, [], ◌∷◌, refl, sym, ap, ◌∙◌, arith}
+use Rattle.std.specs.Prelude.{pos, negsuc}
 use Rattle.std.proofs.lemmas.Bool.Decides.{nat_tests}
 use Rattle.std.proofs.lemmas.Int.{ints}
 use Rattle.nm_base.specs.declared.int_type.IntType.TheVariants.{I32, U32}
 use Rattle.nm_base.specs.IntType.{signed_part, wrapped}
-use Rattle.mid_code.specs.Help.{floor_div, residue, shifted_right, sign}
+use Rattle.mid_code.specs.Help.{residue, shifted_right}
 use Rattle.msp_runtime.specs.Code.{Registers, Times}
-use Rattle.msp_runtime.specs.Routines.{add, add_carry, all, copy, fill_if, right_turns_wide, set, shift_right_wide, subtract, where_least}
+use Rattle.msp_runtime.specs.Routines.{add, add_carry, all, copy, right_turns_wide, set, shift_right_wide, subtract}
 use Rattle.msp_runtime.proofs.Steps.{Ends, at_least, does, keeps, loops, nothing, then}
 use Rattle.msp_runtime.proofs.Meets.{after}
 use Rattle.msp_runtime.proofs.WideProducts.{IsWideNumber, Rising, right_turn, wide}
@@ -61,8 +61,15 @@ right_rest : (st : Registers) (x0 x1 h n result : ℕ) → st.regs 12 ≡ x0 →
 right_rest st x0 x1 h n result e12 l12 e13 l13 e10 e11 lh en le goal =
     then (does (then (does (then (loops (Rising result) (32 - n) (omega (arith, en, le)) (omega arith)
     (record { a = x0; b = x1; c = h; d = h; s12 = e12; s13 = e13; s10 = e10; s11 = e11; la = l12; lb = l13; lc = lh; ld = lh; goal = goal }) (right_turn result)
-    (λ s g. then (does (then (does (nothing (record { low = g.c; high = g.d; in_12 = g.s10; in_13 = g.s11; small = g.lc; small_high = g.ld;
-      is = (let a = g.la in let b = g.lb in let c = g.lc in let d = g.ld in let z : (wide g.a g.b + 0x100000000 * wide g.c g.d) * 1 / 0x100000000 % 0x100000000 ≡ wide g.c g.d = omega (arith, a, b, c, d) in sym z) ∙ g.goal })))))))))))
+    (λ s g. then (does (then (does (nothing (record {
+      low = g.c;
+      high = g.d;
+      in_12 = g.s10;
+      in_13 = g.s11;
+      small = g.lc;
+      small_high = g.ld;
+      is = (let a = g.la in let b = g.lb in let c = g.lc in let d = g.ld in let z : (wide g.a g.b + 0x100000000 * wide g.c g.d) * 1 / 0x100000000 % 0x100000000 ≡ wide g.c g.d = omega (arith, a, b, c, d) in sym z) ∙ g.goal;
+    })))))))))))
 
 right_count : (st : Registers) (x0 x1 h n : ℕ) → st.regs 12 ≡ x0 → x0 < 0x10000 → st.regs 13 ≡ x1 → x1 < 0x10000 → st.regs 10 ≡ h → h < 0x10000 → st.regs 14 ≡ n → n < 0x10000 →
     Ends right_turns_wide st (IsWideNumber (risen_wide (wide x0 x1) h n))

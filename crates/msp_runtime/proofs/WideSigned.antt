@@ -1,13 +1,11 @@
 -- Quotients and remainders of 32 bits, without and with signs.
-use Rattle.std.proofs.Common.{◌≡◌, ℕ, ◌+◌, ◌-◌, ◌*◌, ◌%◌, ◌/◌, ◌==◌, ◌<◌, ◌≤◌, Bool, true, false, cond, not, nat_le, [], ◌∷◌, refl, sym, ap, ◌∙◌, arith}
+use Rattle.std.proofs.Common.{◌≡◌, ℕ, ◌+◌, ◌-◌, ◌%◌, ◌/◌, ◌==◌, ◌<◌, ◌≤◌, Bool, true, false, cond, not, nat_le, [], ◌∷◌, refl, sym, ap, ◌∙◌, arith}
 use Rattle.std.proofs.lemmas.Bool.Decides.{nat_tests}
-use Rattle.std.proofs.Math.Nat.{div-le_self, mod-le}
-use Rattle.msp_isa.specs.declared.instr.Cond.TheVariants.{Jne}
 use Rattle.msp_isa.specs.declared.instr.Op2.TheVariants.{Cmp, Mov}
 use Rattle.open_law.specs.Homes.{literal}
 use Rattle.open_law.proofs.Homes.{flags_zero}
-use Rattle.msp_runtime.specs.Code.{Code, Do, Registers, Skip, done, leaves, meaning, pushed}
-use Rattle.msp_runtime.specs.Routines.{all, copy, count_up, divide_wide, magnitude_wide, negate_wide, quotient_wide, remainder_over, remainder_wide, set, signed_back, subtract}
+use Rattle.msp_runtime.specs.Code.{Code, Do, Registers, done, leaves, meaning, pushed}
+use Rattle.msp_runtime.specs.Routines.{all, count_up, divide_wide, magnitude_wide, negate_wide, quotient_wide, remainder_over, remainder_wide, set, signed_back, subtract}
 use Rattle.msp_runtime.proofs.Running.{code_leaves, straight_bounded}
 use Rattle.msp_runtime.proofs.Steps.{Ends, at_least, carry_out, does, keeps, nothing, skips, then}
 use Rattle.msp_runtime.proofs.Meets.{after}
@@ -16,7 +14,7 @@ use Rattle.msp_runtime.proofs.GivenWords.{differs}
 use Rattle.msp_runtime.proofs.GivenWide.{magnitude_wide_of, negated_wide, signed_by_wide}
 use Rattle.msp_runtime.proofs.WideProducts.{IsWideNumber, wide}
 use Rattle.msp_runtime.proofs.WideShifts.{top_half}
-use Rattle.msp_runtime.proofs.WideDivide.{IsDivided, divide_wide_does}
+use Rattle.msp_runtime.proofs.WideDivide.{divide_wide_does}
 
 -- ---- without signs
 
@@ -73,7 +71,7 @@ turned_back st m0 m1 c r result differ e12 l12 e13 l13 er ec e goal = then (does
     (ap not (flags_zero _ _ _ _ _ ∙ ap (λ n. (n + (0x10000 - 1 - 1) + 1) % 0x10000 == 0) ec ∙ e))
     (λ t. nothing (record { low = m0; high = m1; in_12 = e12; in_13 = e13; small = l12; small_high = l13; is = er ∙ same differ t ∙ goal }))
     (λ t. let n = negates_x (done Cmp (literal 1) 8 st) m0 m1 e12 e13 in
-        nothing (record { low = low_of m0; high = high_of m0 m1; in_12 = n.0; in_13 = n.1; small = omega arith; small_high = omega arith; is = is_negated m0 m1 l12 l13 ∙ ap negated_wide er ∙ other differ t ∙ goal })))))
+    nothing (record { low = low_of m0; high = high_of m0 m1; in_12 = n.0; in_13 = n.1; small = omega arith; small_high = omega arith; is = is_negated m0 m1 l12 l13 ∙ ap negated_wide er ∙ other differ t ∙ goal })))))
   where
     same : (b : Bool) → not b ≡ true → r ≡ signed_by_wide b r
     same false t = refl
@@ -152,16 +150,16 @@ module _ (st : Registers) (x0 x1 y0 y1 : ℕ) (e12 : st.regs 12 ≡ x0) (l12 : x
   quotient_signed_wide_does =
       keeps (keeps (keeps (keeps (then (does (then (at_least 0x8000 x1 refl (omega arith) e13 (straight_bounded (all (negate_wide 12 13 ∷ all (count_up 8 ∷ []) ∷ [])) refl tested)
       (λ le. let t : nat_le 0x80000000 (wide x0 x1) ≡ true = top_half x0 x1 l12 ∙ grind (arith, nat_tests) in
-          let n = negates_x tested x0 x1 e12 e13 in let w = without x0 x1 l12 l13 le in
-          rw (t, sym w) (after (quotient_rest turned_x (low_of x0) (high_of x0 x1) y0 y1 n.0 (omega arith) n.1 (omega arith) e14 l14 e15 l15 true refl) (λ s w. again _ s _ refl refl w)))
+      let n = negates_x tested x0 x1 e12 e13 in let w = without x0 x1 l12 l13 le in
+      rw (t, sym w) (after (quotient_rest turned_x (low_of x0) (high_of x0 x1) y0 y1 n.0 (omega arith) n.1 (omega arith) e14 l14 e15 l15 true refl) (λ s w. again _ s _ refl refl w)))
       (λ lt. let t : nat_le 0x80000000 (wide x0 x1) ≡ false = top_half x0 x1 l12 ∙ grind (arith, nat_tests) in
-          rw t (after (quotient_rest tested x0 x1 y0 y1 e12 l12 e13 l13 e14 l14 e15 l15 false refl) (λ s w. again _ s _ refl refl w))))))))))
+      rw t (after (quotient_rest tested x0 x1 y0 y1 e12 l12 e13 l13 e14 l14 e15 l15 false refl) (λ s w. again _ s _ refl refl w))))))))))
 
   pub remainder_signed_wide_does : Ends (remainder_wide true) st (IsWideNumber (signed_by_wide (nat_le 0x80000000 (wide x0 x1)) (remainder_of (magnitude_wide_of (wide x0 x1)) (magnitude_wide_of (wide y0 y1)))))
   remainder_signed_wide_does =
       keeps (keeps (keeps (keeps (then (does (then (at_least 0x8000 x1 refl (omega arith) e13 (straight_bounded (all (negate_wide 12 13 ∷ all (count_up 8 ∷ []) ∷ [])) refl tested)
       (λ le. let t : nat_le 0x80000000 (wide x0 x1) ≡ true = top_half x0 x1 l12 ∙ grind (arith, nat_tests) in
-          let n = negates_x tested x0 x1 e12 e13 in let w = without x0 x1 l12 l13 le in
-          rw (t, sym w) (after (remainder_rest turned_x (low_of x0) (high_of x0 x1) y0 y1 n.0 (omega arith) n.1 (omega arith) e14 l14 e15 l15 true refl) (λ s w. again _ s _ refl refl w)))
+      let n = negates_x tested x0 x1 e12 e13 in let w = without x0 x1 l12 l13 le in
+      rw (t, sym w) (after (remainder_rest turned_x (low_of x0) (high_of x0 x1) y0 y1 n.0 (omega arith) n.1 (omega arith) e14 l14 e15 l15 true refl) (λ s w. again _ s _ refl refl w)))
       (λ lt. let t : nat_le 0x80000000 (wide x0 x1) ≡ false = top_half x0 x1 l12 ∙ grind (arith, nat_tests) in
-          rw t (after (remainder_rest tested x0 x1 y0 y1 e12 l12 e13 l13 e14 l14 e15 l15 false refl) (λ s w. again _ s _ refl refl w))))))))))
+      rw t (after (remainder_rest tested x0 x1 y0 y1 e12 l12 e13 l13 e14 l14 e15 l15 false refl) (λ s w. again _ s _ refl refl w))))))))))

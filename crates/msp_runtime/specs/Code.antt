@@ -1,6 +1,6 @@
 -- Code over registers in a few forms: what it does, the instructions that it takes at most, the stack that it uses, and its items
 -- (own; operations and flags by SLAU049, 3.4).
-use Rattle.std.specs.Prelude.{◌≡◌, ℕ, zero, suc, ◌+◌, ◌-◌, ◌*◌, ◌≤◌, ◌==◌, ◌&&◌, ◌||◌, max, nat_le, nat_lt, not, Bool, true, false, List, [], ◌∷◌, ◌++◌, if◌then◌else◌}
+use Rattle.std.specs.Prelude.{ℕ, zero, suc, ◌+◌, ◌-◌, ◌*◌, ◌≤◌, ◌==◌, ◌&&◌, ◌||◌, max, nat_le, nat_lt, not, Bool, true, false, List, [], ◌∷◌, ◌++◌, if◌then◌else◌}
 use Rattle.msp_isa.specs.declared.code.Item.{Item}
 use Rattle.msp_isa.specs.declared.code.Item.TheVariants as item
 use Rattle.msp_isa.specs.declared.instr.Cond.{Cond}

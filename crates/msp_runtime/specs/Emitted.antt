@@ -1,5 +1,5 @@
 -- The functions of routines (own).
-use Rattle.std.specs.Prelude.{ℕ, List, [], map}
+use Rattle.std.specs.Prelude.{List, [], map}
 use Rattle.std.specs.List.{range_with_len}
 use Rattle.msp_isa.specs.declared.code.CodeFn.{CodeFn}
 use Rattle.msp_runtime.specs.Code.{Code, depth, routine_items}

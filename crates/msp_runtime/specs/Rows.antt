@@ -1,7 +1,7 @@
 -- Rows of what routines do, at values where they differ (own).
-use Rattle.std.specs.Prelude.{◌≡◌, ℕ, true, false, List, [], ◌∷◌, slice_index}
+use Rattle.std.specs.Prelude.{◌≡◌, ℕ, [], ◌∷◌, slice_index}
 use Rattle.nm_base.specs.declared.int_type.IntType.{IntType}
-use Rattle.nm_base.specs.declared.int_type.IntType.TheVariants.{I8, U8, I16, U16, I32, U32}
+use Rattle.nm_base.specs.declared.int_type.IntType.TheVariants.{I8, I16, U16, I32, U32}
 use Rattle.mid_code.specs.declared.help.HelpOp.{HelpOp}
 use Rattle.mid_code.specs.declared.help.HelpOp.TheVariants.{Mul, Div, Rem, Shl, Shr}
 use Rattle.msp_runtime.specs.Code.{Registers, meaning}

@@ -14,6 +14,7 @@ macro_rules! two {
         Item::Is(Instr::Two(Op2::$op, false, Operand::Immediate($n), Operand::Reg($r)))
     };
 }
+
 pub(crate) use two;
 
 macro_rules! jump {
@@ -21,6 +22,7 @@ macro_rules! jump {
         Item::Jump(Cond::$condition, $label)
     };
 }
+
 pub(crate) use jump;
 
 macro_rules! push {
@@ -28,6 +30,7 @@ macro_rules! push {
         Item::Is(Instr::One(Op1::Push, false, Operand::Reg($r)))
     };
 }
+
 pub(crate) use push;
 
 // The word that was pushed last.
@@ -36,6 +39,7 @@ macro_rules! restore {
         Item::Is(Instr::Two(Op2::Mov, false, Operand::Indexed(1, 0), Operand::Reg($r)))
     };
 }
+
 pub(crate) use restore;
 
 /// The word that was pushed last is dropped.

@@ -1,4 +1,4 @@
-//! The routines that compiled code calls: multiplication, division, shifts and the checks of pointers.
+//! The routines that compiled code calls: multiplication, division and shifts.
 #![tactic(auto)]
 
 mod bytes;

@@ -4,13 +4,13 @@ ghost use Rattle.std.specs.Prelude.{◌≡◌, ◌++◌, OnOk, true, false};
 ghost use Rattle.msp_runtime.specs.Code.{items_from};
 ghost use Rattle.msp_runtime.specs.Routines as routines;
 
-use crate::wide::{
-    put_multiply_wide, put_quotient_signed_wide, put_quotient_wide, put_remainder_signed_wide,
-    put_remainder_wide, put_shift_left_wide, put_shift_right_signed_wide, put_shift_right_wide,
-};
 use crate::bytes::{
     put_quotient_of_bytes, put_quotient_of_signed_bytes, put_remainder_of_bytes,
     put_remainder_of_signed_bytes, put_shift_right_of_byte, put_shift_right_of_signed_byte,
+};
+use crate::wide::{
+    put_multiply_wide, put_quotient_signed_wide, put_quotient_wide, put_remainder_signed_wide,
+    put_remainder_wide, put_shift_left_wide, put_shift_right_signed_wide, put_shift_right_wide,
 };
 use crate::words::{
     put_low_byte, put_multiply, put_quotient, put_quotient_signed, put_remainder,

@@ -15,12 +15,7 @@ use std::alloc::Global;
 /// How many numbers stand for operations, used or not.
 pub const OPERATIONS: u32 = 48;
 
-const RETURN: Item = Item::Is(Instr::Two(
-    Op2::Mov,
-    false,
-    Operand::Increment(1),
-    Operand::Reg(0),
-));
+const RETURN: Item = Item::Is(Instr::Two(Op2::Mov, false, Operand::Increment(1), Operand::Reg(0)));
 
 /// The routine of each number below 48: values in registers from R12 on, and the result there. A number without an operation has
 /// a lone RET. A routine calls no function, and keeps R4 to R11.

@@ -1,4 +1,4 @@
-use Rattle.std.proofs.Common.{true, false, ap, ◌∙◌, ◌++◌}
+use Rattle.std.proofs.Common.{true, ap, ◌∙◌, ◌++◌}
 use Rattle.std.proofs.lemmas.List.{append_assoc}
 use Rattle.msp_runtime.specs.Code.{items_from}
 use Rattle.msp_runtime.specs.Routines.{extend, shift_right}
