@@ -831,6 +831,11 @@ def main():
         copy = os.path.join(folder, "repository")
         shutil.copytree(top, copy, ignore=shutil.ignore_patterns("out", ".git"))
         source = os.path.join(copy, "crates", "lowered_rows", "src")
+        crates = os.path.join(copy, "crates.txt")
+        with open(crates) as f:
+            lines = f.read().replace("lowered_rows: ", "lowered_rows: stmt_emitter lower_form lower_stmt ")
+        with open(crates, "w") as f:
+            f.write(lines)
         with open(os.path.join(source, "bodies.rt"), "w") as f:
             f.write(GENERATOR + "".join(test(seed) for seed in range(FIRST, FIRST + COUNT)))
         with open(os.path.join(source, "lib.rt"), "a") as f:
