@@ -1,7 +1,8 @@
 #!/usr/bin/env python3
-"""Prints how deep `act` goes before the stack ends: nested operators in one expression, and calls in a chain of bodies.
-It adds tests of growing depth to a copy of the repository, runs them by `rt try --test`, and reads which of them end. Its
-argument is the stack in KB, 8192 if there is none."""
+"""Prints how deep `act` goes before the stack ends, and how long a test takes, its start and its builder with it: nested
+operators in one expression, and calls in a chain of bodies. It adds tests of growing depth to a copy of the repository, and
+runs them by `rt try --test`. A program is not dropped, since the destructor of a tree goes down its levels. Its argument is the
+stack in KB, 8192 if there is none."""
 import os
 import re
 import resource
@@ -9,8 +10,9 @@ import shutil
 import subprocess
 import sys
 import tempfile
+import time
 
-LEVELS = [500, 1000, 1250, 1500, 1750, 2000, 2250, 2500, 2750, 3000, 4000, 8000]
+LEVELS = {"nested": [500, 2000, 10000], "chain": [1000, 10000, 60000]}
 KILOBYTES = int(sys.argv[1]) if len(sys.argv) > 1 else 8192
 
 BUILDERS = """//! Deep trees and long chains of calls.
@@ -53,6 +55,13 @@ fn program(alloc: Global, bodies: Vec<Body>) -> Program {
     }
 }
 
+fn performed(alloc: Global, bodies: Vec<Body>) -> Result<usize, NoMemory> {
+    let p = program(alloc, bodies);
+    let actions = act(alloc, &p, 0, &[1], 0)?.len();
+    std::mem::forget(p);
+    Ok(actions)
+}
+
 fn nested(alloc: Global, levels: u32) -> Result<usize, NoMemory> {
     let mut e = CoreExpr::In(0x0132);
     for _ in 0..levels {
@@ -61,7 +70,7 @@ fn nested(alloc: Global, levels: u32) -> Result<usize, NoMemory> {
     }
     let mut bodies = Vec::new(alloc);
     bodies.push(body(alloc, e)?)?;
-    Ok(act(alloc, &program(alloc, bodies), 0, &[1], 0)?.len())
+    performed(alloc, bodies)
 }
 
 fn chain(alloc: Global, calls: u32) -> Result<usize, NoMemory> {
@@ -71,7 +80,7 @@ fn chain(alloc: Global, calls: u32) -> Result<usize, NoMemory> {
         bodies.push(body(alloc, next)?)?;
     }
     bodies.push(body(alloc, CoreExpr::In(0x0132))?)?;
-    Ok(act(alloc, &program(alloc, bodies), 0, &[1], 0)?.len())
+    performed(alloc, bodies)
 }
 """
 
@@ -86,27 +95,42 @@ fn {shape}_{depth:06}(rt: HostRuntime) -> Result<(), Fail> {{
 """
 
 
+def write_tests(source):
+    with open(os.path.join(source, "depths.rt"), "w") as f:
+        f.write(BUILDERS)
+        for shape, depths in LEVELS.items():
+            for depth in depths:
+                f.write(test(shape, depth, 1 if shape == "nested" else 2 * depth + 1))
+    with open(os.path.join(source, "lib.rt"), "a") as f:
+        f.write("#[cfg(test)]\nmod depths;\n")
+
+
+def run_tests(folder):
+    """Runs the tests one after the other, and prints how each ended and after how many seconds."""
+    run = subprocess.Popen(["rt", "try", "--test"], cwd=folder, stdout=subprocess.PIPE, stderr=subprocess.STDOUT, text=True)
+    begun = time.monotonic()
+    found = False
+    for line in run.stdout:
+        ended = time.monotonic()
+        row = re.match(r"test depths::(nested|chain)_(\d+) \.\.\. (\w+)", line)
+        if row:
+            found = True
+            print(f"{row[1]} {int(row[2])}: {row[3]} after {ended - begun:.1f} s")
+        begun = ended
+    if not found:
+        sys.exit("no test ran: see `rt try --test`")
+
+
 def main():
     top = os.path.dirname(os.path.dirname(os.path.abspath(__file__)))
     with tempfile.TemporaryDirectory() as folder:
         copy = os.path.join(folder, "repository")
         shutil.copytree(top, copy, ignore=shutil.ignore_patterns("out", ".git"))
         source = os.path.join(copy, "crates", "core_act", "src")
-        with open(os.path.join(source, "depths.rt"), "w") as f:
-            f.write(BUILDERS)
-            for depth in LEVELS:
-                f.write(test("nested", depth, 1) + test("chain", depth, 2 * depth + 1))
-        with open(os.path.join(source, "lib.rt"), "a") as f:
-            f.write("#[cfg(test)]\nmod depths;\n")
+        write_tests(source)
         limit = (KILOBYTES * 1024, resource.getrlimit(resource.RLIMIT_STACK)[1])
         resource.setrlimit(resource.RLIMIT_STACK, limit)
-        run = subprocess.run(["rt", "try", "--test"], cwd=os.path.dirname(source), capture_output=True, text=True)
-        rows = re.findall(r"depths::(nested|chain)_(\d+) \.\.\. (\w+)", run.stdout + run.stderr)
-    if not rows:
-        sys.exit(run.stdout + run.stderr)
-    for shape in ("nested", "chain"):
-        ended = [int(depth) for name, depth, found in rows if name == shape and found == "ok"]
-        print(f"{shape}: {max(ended, default=0)} of {LEVELS} end within {KILOBYTES} KB of stack")
+        run_tests(os.path.dirname(source))
 
 
 main()

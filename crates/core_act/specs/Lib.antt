@@ -3,3 +3,7 @@ pub mod Told
 pub mod Evaluable
 pub mod Scopes
 pub mod Walks
+pub mod Stacks
+pub mod Remaining
+pub mod Steps
+pub mod Moves

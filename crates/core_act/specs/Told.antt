@@ -22,16 +22,6 @@ abbrev pub LiesWithin : (needed : ℕ) → Where → Type 0
 LiesWithin needed (At address) = ⊤
 LiesWithin needed (Within x offset) = offset + needed ≤ 32769
 
-abbrev pub TurnedBy : (Work Flow → Work Flow) → Log → Locals → Option Flow → Log → Locals → Type 0
-TurnedBy turn log locals None log' locals' =
-    (more : Work Flow) (after : Flow → Locals → Behaviour) → all_actions log (turn more after locals) ≡ all_actions log' (more after locals')
-TurnedBy turn log locals (Some flow) log' locals' =
-    (more : Work Flow) (after : Flow → Locals → Behaviour) → all_actions log (turn more after locals) ≡ all_actions log' (after flow locals')
-
--- a turn comes to the next one, or to the way in which the loop is left
-pub record Turned (turn : Work Flow → Work Flow) (log : Log) (locals : Locals) (o : Option Flow) (log' : Log) (locals' : Locals) : Type 0 where
-  pub by : TurnedBy turn log locals o log' locals'
-
 -- from a statement on, where there is one
 abbrev pub from_start : Option ℕ → (ℕ → Work Flow) → Work Flow
 from_start None from = give On

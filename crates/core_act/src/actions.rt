@@ -7,7 +7,10 @@ ghost use Rattle.std.specs.Prelude.{◌≡◌, IfOk};
 
 use crate::log::Log;
 use crate::scope::Scope;
-use crate::walk::enter;
+use crate::calls::enter;
+use crate::machine::Machine;
+use crate::run::finish;
+use crate::stack::Stack;
 use nesc_core::Program;
 use nm_base::{Action, NoMemory};
 use std::alloc::Global;
@@ -31,11 +34,21 @@ pub fn act(
         depth: p.bodies.as_slice().len(),
         turns: n,
     };
-    let mut log = Log {
+    let log = Log {
         did: Vec::new(alloc),
         left: answers,
         over: false,
     };
-    enter(&scope, body, &[], &mut log)?;
-    Ok(log.did)
+    let mut m = Machine {
+        scope,
+        tasks: Stack::new(alloc),
+        values: Stack::new(alloc),
+        places: Stack::new(alloc),
+        flows: Stack::new(alloc),
+        locals: Vec::new(alloc),
+        log,
+    };
+    enter(&mut m, body, &[])?;
+    finish(&mut m)?;
+    Ok(m.log.did)
 }

@@ -3,16 +3,25 @@
 
 mod access;
 mod actions;
+mod calls;
 mod cases;
 mod changes;
+mod choose;
 mod flow;
 mod given;
 mod law;
 mod locals;
 mod log;
+mod machine;
+mod open;
+mod operate;
 mod places;
+mod reach;
+mod run;
 mod scope;
-mod walk;
+mod stack;
+mod task;
+mod turns;
 
 pub use actions::act;
 pub use law::actions_grow;

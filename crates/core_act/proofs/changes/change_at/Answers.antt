@@ -5,7 +5,7 @@ use Rattle.nesc_core.specs.View.{place_of}
 use Rattle.core_meaning.specs.Numbers.{binary}
 use Rattle.core_meaning.specs.Work.{number_of}
 use Rattle.core_act.specs.Scopes.{type_at}
-use Rattle.core_act.proofs.Valued.{changed_form}
+use Rattle.core_act.proofs.Changing.{changed_form}
 use Rattle.core_act.proofs.changes.change_at.Goals as goal
 
 pub returns-then-change : goal.returns-then-change
