@@ -139,13 +139,14 @@ module _ (m : Machine) where
       record {
         same =
             (λ j. all_actions m.log (run p (map type_of (sym t_is j)) (calls_of p (m.scope.depth - 1) m.scope.turns) m.scope.turns (stmt_of (sym code_is j))
-                (λ flow ms. remaining (sym scope j) m.tasks (result flow ∷ m.values) m.places m.flows (sym locals j)) (sym holds j)))
+            (λ flow ms. remaining (sym scope j) m.tasks (result flow ∷ m.values) m.places m.flows (sym locals j)) (sym holds j)))
             ∙ ap (λ us. all_actions m.log (remaining inner us m.values m.places m.flows ls.items)) (sym u);
         safe = record {
           held = record { structs = r.held.structs; objects = r.held.objects; bodies = r.held.bodies; locals = subst (λ ts. All (IsSized p.structs) (map type_of ts)) (sym t_is) runs.locals };
-          safe = subst (λ us. Safe inner us m.places) (sym u)
-              (subst (λ ts. Runnable p (map type_of ts) (stmt_of code.now)) (sym t_is) (subst (λ c. Runnable p (map type_of b.locals) (stmt_of c)) (sym code_is) runs.code),
-              subst (λ o. IsHeld o × Safe o m.tasks m.places) (sym scope) (r.held, r.safe));
+          safe = subst (λ us. Safe inner us m.places) (sym u) (
+            subst (λ ts. Runnable p (map type_of ts) (stmt_of code.now)) (sym t_is) (subst (λ c. Runnable p (map type_of b.locals) (stmt_of c)) (sym code_is) runs.code),
+            subst (λ o. IsHeld o × Safe o m.tasks m.places) (sym scope) (r.held, r.safe),
+          );
         };
         falls =
             let a = ap (steps_left inner) u in

@@ -96,14 +96,14 @@ module _ {s : Scope} {ts us : List Task} {vs xs : List ℤ} {fs : List Flow} {lo
       → Moves s (task.If a b) ts vs fs log us xs fs log
   first_statement a b c is z u x =
       moves log (λ ws locals. ap (λ t. (if t then run_in s (stmt_of b.now.value) else run_in s (stmt_of a.now.value)) (λ f. remaining s ts (below vs) ws (f ∷ fs)) locals) z
-          ∙ ap (λ a. run_in s (stmt_of a) (λ f. remaining s ts (below vs) ws (f ∷ fs)) locals) (sym is))
+      ∙ ap (λ a. run_in s (stmt_of a) (λ f. remaining s ts (below vs) ws (f ∷ fs)) locals) (sym is))
       (λ ws h. (subst (λ a. Runnable (program_in s) (types_in s) (stmt_of a)) (sym is) h.0, h.2)) (let k = ap (λ a. stmt_steps (calls_from s) s.turns (stmt_of a)) is in omega (arith, k)) u x refl
 
   pub second_statement : (a b : Bor (Box CoreStmt Global)) (c : Bor CoreStmt) → c.now ≡ b.now.value → is_zero (top (pos 0) vs) ≡ true → us ≡ task.Run c ∷ ts → xs ≡ below vs
       → Moves s (task.If a b) ts vs fs log us xs fs log
   second_statement a b c is z u x =
       moves log (λ ws locals. ap (λ t. (if t then run_in s (stmt_of b.now.value) else run_in s (stmt_of a.now.value)) (λ f. remaining s ts (below vs) ws (f ∷ fs)) locals) z
-          ∙ ap (λ a. run_in s (stmt_of a) (λ f. remaining s ts (below vs) ws (f ∷ fs)) locals) (sym is))
+      ∙ ap (λ a. run_in s (stmt_of a) (λ f. remaining s ts (below vs) ws (f ∷ fs)) locals) (sym is))
       (λ ws h. (subst (λ a. Runnable (program_in s) (types_in s) (stmt_of a)) (sym is) h.1, h.2)) (let k = ap (λ a. stmt_steps (calls_from s) s.turns (stmt_of a)) is in omega (arith, k)) u x refl
 
 -- ---- cases
@@ -139,7 +139,7 @@ module _ {s : Scope} {ts us : List Task} {vs xs : List ℤ} {fs : List Flow} {lo
       → us ≡ task.Leave (way.By On) ∷ task.Rest rest ∷ ts → xs ≡ below vs → Moves s (task.Switch cases list) ts vs fs log us xs fs log
   some_case start k rest some is found u x =
       moves log (λ ws locals. (λ j. (found (run_from_in s (stmts_of list.now)) ∙ ap (λ o. from_start o (run_from_in s (stmts_of list.now))) some ∙ from_drop s list.now k
-          ∙ ap (λ l. run_from_in s (stmts_of l) 0) (sym is)) j (λ f. remaining s ts (below vs) ws (f ∷ fs)) locals))
+      ∙ ap (λ l. run_from_in s (stmts_of l) 0) (sym is)) j (λ f. remaining s ts (below vs) ws (f ∷ fs)) locals))
       (λ ws h. (subst (λ l. AllRunnable (program_in s) (types_in s) (stmts_of l)) (sym is) (drop_runs s list.now k h.0), h.1))
       (let a = ap (λ l. stmts_steps (calls_from s) s.turns (stmts_of l)) is in let b = drop_steps s list.now k in omega (arith, a, b)) u x refl
 

@@ -133,8 +133,17 @@ module _ (s : Scope) (ts : List Task) where
   unfolding value_in find_in
   update_opens place c a at = record {
     same = λ vs ws fs locals. refl;
-    safe = λ ws e h. (e.0, λ w lies. (lies, λ us is. (e.1, subst (λ us. IsAccessible s (access.Change c) (place_of place.now) us × ((xs : List Where) → IsAccessed s (access.Change c) (place_of place.now) us xs → Safe s ts xs)) (sym is)
-        (lies, λ xs is. subst (Safe s ts) (sym is) h))));
+    safe = λ ws e h. (
+      e.0,
+      λ w lies. (
+        lies,
+        λ us is. (
+          e.1,
+          subst (λ us. IsAccessible s (access.Change c) (place_of place.now) us × ((xs : List Where) → IsAccessed s (access.Change c) (place_of place.now) us xs → Safe s ts xs)) (sym is)
+              (lies, λ xs is. subst (Safe s ts) (sym is) h),
+        ),
+      ),
+    );
     falls = omega arith;
   }
 
@@ -285,10 +294,10 @@ module _ (s : Scope) (ts : List Task) where
         same = λ vs ws fs locals.
             let last : (vs : List ℤ) (flow : Flow) (locals : Locals) → remaining s (end ∷ ts) vs ws (flow ∷ fs) locals ≡ (if g then fill_in s (first + count) 1 (result flow ∷ []) else give tt) (λ u. remaining s ts vs ws (On ∷ fs)) locals =
             λ vs flow locals.
-                ap (λ e. remaining s (e ∷ ts) vs ws (flow ∷ fs) locals) is ∙ ended g place vs ws flow fs locals
-                ∙ ap (λ k. (if g then fill_in s k 1 (result flow ∷ []) else give tt) (λ u. remaining s ts vs ws (On ∷ fs)) locals) at in
+            ap (λ e. remaining s (e ∷ ts) vs ws (flow ∷ fs) locals) is ∙ ended g place vs ws flow fs locals
+            ∙ ap (λ k. (if g then fill_in s k 1 (result flow ∷ []) else give tt) (λ u. remaining s ts vs ws (On ∷ fs)) locals) at in
             (λ j. values_in s (exprs_of a.rest.now) (λ xs. handed s (sym to j) (sym none j ++ xs)
-                (λ vs locals. Does action.Tick (run_in s (stmt_of body.now) (λ flow locals. Does action.Tick (sym (last vs flow locals) j)) locals)) vs) locals);
+            (λ vs locals. Does action.Tick (run_in s (stmt_of body.now) (λ flow locals. Does action.Tick (sym (last vs flow locals) j)) locals)) vs) locals);
         safe = λ ws e h. (e.0, (tt, (e.1, (tt, subst (λ x. Safe s (x ∷ ts) ws) (sym is) (ended_safe g place ws low h)))));
         falls = let k = ap (callee_steps s) to in let n = ap (λ x. steps_left s (x ∷ ts)) is ∙ ended_steps g place in omega (arith, k, n);
       }

@@ -74,9 +74,9 @@ module _ {s : Scope} {ts us : List Task} {vs : List ℤ} {fs : List Flow} {log :
   begins_first k some first u =
       moves log
       (λ ws locals.
-          let K : Flow → Locals → Behaviour = λ flow. remaining s ts vs ws (flow ∷ fs) in
-          ap (λ n. turns_in s l n K locals) some ∙ ap (λ b. turn b (test s l) (body s l) (step s l) (turns_in s l k) K locals) first
-          ∙ sym (ap (λ b. Does action.Tick (test s l (λ v. (if is_zero v then give On else behind_test b (body s l) (step s l) (turns_in s l k)) K) locals)) first))
+      let K : Flow → Locals → Behaviour = λ flow. remaining s ts vs ws (flow ∷ fs) in
+      ap (λ n. turns_in s l n K locals) some ∙ ap (λ b. turn b (test s l) (body s l) (step s l) (turns_in s l k) K locals) first
+      ∙ sym (ap (λ b. Does action.Tick (test s l (λ v. (if is_zero v then give On else behind_test b (body s l) (step s l) (turns_in s l k)) K) locals)) first))
       (λ ws h. (tt, (h.0, h)))
       (let n = ap (λ n. n * turn_steps s l) some in let c = ap (λ b. if b then 4 + maybe_steps (calls_from s) (maybe_expr_of l.step.now) + stmt_steps (calls_from s) s.turns (stmt_of l.body.now) else 2) first in omega (arith, n, c))
       u refl refl
@@ -86,9 +86,9 @@ module _ {s : Scope} {ts us : List Task} {vs : List ℤ} {fs : List Flow} {log :
   begins_last k some first u =
       moves log
       (λ ws locals.
-          let K : Flow → Locals → Behaviour = λ flow. remaining s ts vs ws (flow ∷ fs) in
-          ap (λ n. turns_in s l n K locals) some ∙ ap (λ b. turn b (test s l) (body s l) (step s l) (turns_in s l k) K locals) first
-          ∙ sym (ap (λ b. Does action.Tick (body s l (λ flow. behind_body b (test s l) (step s l) (turns_in s l k) flow K) locals)) first))
+      let K : Flow → Locals → Behaviour = λ flow. remaining s ts vs ws (flow ∷ fs) in
+      ap (λ n. turns_in s l n K locals) some ∙ ap (λ b. turn b (test s l) (body s l) (step s l) (turns_in s l k) K locals) first
+      ∙ sym (ap (λ b. Does action.Tick (body s l (λ flow. behind_body b (test s l) (step s l) (turns_in s l k) flow K) locals)) first))
       (λ ws h. (tt, (h.2, h)))
       (let n = ap (λ n. n * turn_steps s l) some in let c = ap (λ b. if b then 3 + maybe_steps (calls_from s) (maybe_expr_of l.step.now) else 4 + expr_steps (calls_from s) (expr_of l.test.now)) first in omega (arith, n, c))
       u refl refl
@@ -103,13 +103,13 @@ module _ {s : Scope} {ts us : List Task} {vs : List ℤ} {fs : List Flow} {log :
   tested_first z first u x =
       moves log
       (λ ws locals.
-          let K : Flow → Locals → Behaviour = λ flow. remaining s ts (below vs) ws (flow ∷ fs) in
-          ap (λ t. (if t then give On else behind_test l.first (body s l) (step s l) (turns_in s l left)) K locals) z
-          ∙ ap (λ b. behind_test b (body s l) (step s l) (turns_in s l left) K locals) first
-          ∙ sym (ap (λ b. body s l (λ flow. behind_body b (test s l) (step s l) (turns_in s l left) flow K) locals) first))
+      let K : Flow → Locals → Behaviour = λ flow. remaining s ts (below vs) ws (flow ∷ fs) in
+      ap (λ t. (if t then give On else behind_test l.first (body s l) (step s l) (turns_in s l left)) K locals) z
+      ∙ ap (λ b. behind_test b (body s l) (step s l) (turns_in s l left) K locals) first
+      ∙ sym (ap (λ b. body s l (λ flow. behind_body b (test s l) (step s l) (turns_in s l left) flow K) locals) first))
       (λ ws h. (h.2, h))
       (let c = ap (λ b. if b then 3 + maybe_steps (calls_from s) (maybe_expr_of l.step.now) else 4 + expr_steps (calls_from s) (expr_of l.test.now)) first in
-          let d = ap (λ b. if b then 4 + maybe_steps (calls_from s) (maybe_expr_of l.step.now) + stmt_steps (calls_from s) s.turns (stmt_of l.body.now) else 2) first in omega (arith, c, d))
+      let d = ap (λ b. if b then 4 + maybe_steps (calls_from s) (maybe_expr_of l.step.now) + stmt_steps (calls_from s) s.turns (stmt_of l.body.now) else 2) first in omega (arith, c, d))
       u x refl
 
   pub tested_last : {xs : List ℤ} → is_zero (top (pos 0) vs) ≡ false → l.first ≡ false → us ≡ task.Repeat stage.Begins l left ∷ ts → xs ≡ below vs
@@ -117,9 +117,9 @@ module _ {s : Scope} {ts us : List Task} {vs : List ℤ} {fs : List Flow} {log :
   tested_last z first u x =
       moves log
       (λ ws locals.
-          let K : Flow → Locals → Behaviour = λ flow. remaining s ts (below vs) ws (flow ∷ fs) in
-          ap (λ t. (if t then give On else behind_test l.first (body s l) (step s l) (turns_in s l left)) K locals) z
-          ∙ ap (λ b. behind_test b (body s l) (step s l) (turns_in s l left) K locals) first)
+      let K : Flow → Locals → Behaviour = λ flow. remaining s ts (below vs) ws (flow ∷ fs) in
+      ap (λ t. (if t then give On else behind_test l.first (body s l) (step s l) (turns_in s l left)) K locals) z
+      ∙ ap (λ b. behind_test b (body s l) (step s l) (turns_in s l left) K locals) first)
       (λ ws h. h)
       (let d = ap (λ b. if b then 4 + maybe_steps (calls_from s) (maybe_expr_of l.step.now) + stmt_steps (calls_from s) s.turns (stmt_of l.body.now) else 2) first in omega (arith, d))
       u x refl
@@ -129,7 +129,7 @@ module _ {s : Scope} {ts us : List Task} {vs : List ℤ} {fs : List Flow} {log :
   body_leaves o f left_is some u g =
       moves log
       (λ ws locals. ap (λ (w : Work Flow). w (λ flow. remaining s ts vs ws (flow ∷ below fs)) locals)
-          (leaves l.first (test s l) (step s l) (turns_in s l left) (top On fs) f (λ next. left_is next ∙ ap (λ o. left_or o next) some)))
+      (leaves l.first (test s l) (step s l) (turns_in s l left) (top On fs) f (λ next. left_is next ∙ ap (λ o. left_or o next) some)))
       (λ ws h. h.3)
       (let k = left_some l.first (maybe_steps (calls_from s) (maybe_expr_of l.step.now)) (expr_steps (calls_from s) (expr_of l.test.now)) in omega (arith, k))
       u refl g
@@ -139,10 +139,10 @@ module _ {s : Scope} {ts us : List Task} {vs : List ℤ} {fs : List Flow} {log :
   body_steps o left_is none first opens g =
       moves log
       (λ ws locals.
-          let K : Flow → Locals → Behaviour = λ flow. remaining s ts vs ws (flow ∷ below fs) in
-          ap (λ b. behind_body b (test s l) (step s l) (turns_in s l left) (top On fs) K locals) first
-          ∙ ap (λ (w : Work Flow). w K locals) (left_is (λ after. step s l (λ u. turns_in s l left after)) ∙ ap (λ o. left_or o (λ after. step s l (λ u. turns_in s l left after))) none)
-          ∙ opens.same vs ws (below fs) locals)
+      let K : Flow → Locals → Behaviour = λ flow. remaining s ts vs ws (flow ∷ below fs) in
+      ap (λ b. behind_body b (test s l) (step s l) (turns_in s l left) (top On fs) K locals) first
+      ∙ ap (λ (w : Work Flow). w K locals) (left_is (λ after. step s l (λ u. turns_in s l left after)) ∙ ap (λ o. left_or o (λ after. step s l (λ u. turns_in s l left after))) none)
+      ∙ opens.same vs ws (below fs) locals)
       (λ ws h. opens.safe ws h.1 h)
       (let k = opens.falls in let c = ap (λ b. if b then 3 + maybe_steps (calls_from s) (maybe_expr_of l.step.now) else 4 + expr_steps (calls_from s) (expr_of l.test.now)) first in omega (arith, k, c))
       refl refl g
@@ -152,12 +152,12 @@ module _ {s : Scope} {ts us : List Task} {vs : List ℤ} {fs : List Flow} {log :
   body_tests o left_is none first u g =
       moves log
       (λ ws locals.
-          let K : Flow → Locals → Behaviour = λ flow. remaining s ts vs ws (flow ∷ below fs) in
-          let next : Work Flow = λ after. test s l (λ x. (if is_zero x then give On else turns_in s l left) after) in
-          ap (λ b. behind_body b (test s l) (step s l) (turns_in s l left) (top On fs) K locals) first
-          ∙ ap (λ (w : Work Flow). w K locals) (left_is next ∙ ap (λ o. left_or o next) none)
-          ∙ sym (ap (λ b. test s l (λ x. (if is_zero x then give On else behind_test b (body s l) (step s l) (turns_in s l left)) K) locals) first))
+      let K : Flow → Locals → Behaviour = λ flow. remaining s ts vs ws (flow ∷ below fs) in
+      let next : Work Flow = λ after. test s l (λ x. (if is_zero x then give On else turns_in s l left) after) in
+      ap (λ b. behind_body b (test s l) (step s l) (turns_in s l left) (top On fs) K locals) first
+      ∙ ap (λ (w : Work Flow). w K locals) (left_is next ∙ ap (λ o. left_or o next) none)
+      ∙ sym (ap (λ b. test s l (λ x. (if is_zero x then give On else behind_test b (body s l) (step s l) (turns_in s l left)) K) locals) first))
       (λ ws h. (h.0, h))
       (let c = ap (λ b. if b then 3 + maybe_steps (calls_from s) (maybe_expr_of l.step.now) else 4 + expr_steps (calls_from s) (expr_of l.test.now)) first in
-          let d = ap (λ b. if b then 4 + maybe_steps (calls_from s) (maybe_expr_of l.step.now) + stmt_steps (calls_from s) s.turns (stmt_of l.body.now) else 2) first in omega (arith, c, d))
+      let d = ap (λ b. if b then 4 + maybe_steps (calls_from s) (maybe_expr_of l.step.now) + stmt_steps (calls_from s) s.turns (stmt_of l.body.now) else 2) first in omega (arith, c, d))
       u refl g

@@ -5,11 +5,11 @@ ghost use Rattle.nesc_core.specs.View.{program_of};
 ghost use Rattle.nesc_core.specs.WellFormed.{IsWellFormed};
 ghost use Rattle.std.specs.Prelude.{◌≡◌, IfOk};
 
-use crate::log::Log;
-use crate::scope::Scope;
 use crate::calls::enter;
+use crate::log::Log;
 use crate::machine::Machine;
 use crate::run::finish;
+use crate::scope::Scope;
 use crate::stack::Stack;
 use nesc_core::Program;
 use nm_base::{Action, NoMemory};

@@ -220,9 +220,7 @@ pub(crate) fn open_statement<'a>(
             Task::Run(inner),
             Task::Operate(Operation::Perform(Action::End)),
         ),
-        CoreStmt::Clear(x) => {
-            push_two(tasks, Task::Clear(*x), Task::Leave(Way::By(Flow::On)))
-        }
+        CoreStmt::Clear(x) => { push_two(tasks, Task::Clear(*x), Task::Leave(Way::By(Flow::On))) }
         CoreStmt::Here {
             args,
             first,

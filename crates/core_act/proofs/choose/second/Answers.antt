@@ -16,6 +16,6 @@ returns c =
     let z = sym (c.is_zero-is_zero.ensures ∙ ap is_zero v) in
     on_ok_weaker c.push_two.result
     (λ new s fs log. elim c.match-operator.branch [
-      in-And+else-is_zero w ↦ as_second w.in-And.is (and_goes_on c.args.b (z ∙ w.if-is_zero.false) new c.pop_or.ensures.rest)
+      | in-And+else-is_zero w ↦ as_second w.in-And.is (and_goes_on c.args.b (z ∙ w.if-is_zero.false) new c.pop_or.ensures.rest)
       | in-Or+else-not-is_zero w ↦ as_second w.in-Or.is (or_goes_on c.args.b (z ∙ w.if-not-is_zero.false) new c.pop_or.ensures.rest)
     ]) c.push_two.ensures
