@@ -1,0 +1,14 @@
+pub mod Scope
+pub mod Elab
+pub mod Answers
+pub mod Convert
+pub mod Operators
+pub mod Places
+pub mod Ends
+pub mod Wired
+pub mod RowForms
+pub mod ValueRows
+pub mod PlaceRows
+pub mod RefusalRows
+pub mod TypeRows
+pub mod NumberRows

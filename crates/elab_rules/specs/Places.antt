@@ -1,0 +1,294 @@
+-- Places that are used as values, addresses, assignments and operators that need a local (C99, 6.3.2.1, 6.5.3.2 and 6.5.16; the
+-- order of evaluation is own).
+use Rattle.std.specs.Prelude.{ℕ, pos, zero, suc, ◌+◌, ◌&&◌, nat_eq, Bool, false, if◌then◌else◌, List, [], ◌∷◌, ◌++◌, map, fold, length, slice_get, Option, Some, None, Ok}
+use Rattle.std.specs.List.{flat_map, range_with_len}
+use Rattle.nm_base.specs.declared.pos.Pos.{Pos}
+use Rattle.nm_base.specs.declared.int_type.IntType.{IntType}
+use Rattle.nm_base.specs.declared.int_type.IntType.TheVariants.{I16}
+use Rattle.nm_base.specs.declared.refusal.Refusal.TheVariants.{BadType, AddressOfLocal}
+use Rattle.nesc_core.specs.declared.tree.BinOp.{BinOp}
+use Rattle.nesc_core.specs.declared.tree.BinOp.TheVariants as bin_op
+use Rattle.nesc_core.specs.Plain as core
+use Rattle.nesc_core.specs.Plain.{Ty, Expr, Exprs, Place, Field, void, int, pointer, array, struct}
+use Rattle.nesc_tree.specs.declared.tree.PreOp.{PreOp}
+use Rattle.nesc_tree.specs.declared.tree.PreOp.TheVariants as pre
+use Rattle.nesc_tree.specs.declared.tree.InOp.{InOp}
+use Rattle.nesc_tree.specs.declared.tree.InOp.TheVariants as op
+use Rattle.nesc_types.specs.Rule.{Rule, refuse}
+use Rattle.elab_rules.specs.Scope.{Struct, Env}
+use Rattle.elab_rules.specs.Elab.{Elab, Asked, by, ◌>>=◌, ◌>>◌, give, fresh, mark_taken, state}
+use Rattle.elab_rules.specs.Convert.{Typed, typed, Found, a_place, a_value, a_copy, value_found, pointer_to, size_behind, pointed, int_of, struct_number, Target, a_target, assignable}
+use Rattle.elab_rules.specs.Operators.{arithmetic, shifted, compared, comparable, moved, subtracted, both, either, plus, minus, complement, is_zero, dereferenced, element_behind, element_of, incremented, decremented, assigned, updated}
+
+-- ---- places as values
+
+-- the object that the place begins with, where it begins with one
+abbrev pub take : Pos → Place → Elab (Unit {0})
+take at (core.object k) = mark_taken k
+take at (core.local x) = by (refuse (AddressOfLocal at))
+take at (core.deref e t) = give tt
+take at (core.index p e) = take at p
+take at (core.field p k) = take at p
+
+-- an array is the address of its first element; a number or a pointer is read; a struct is copied alone
+abbrev pub read_at : Pos → Place → Ty → Elab Typed
+read_at at p (array t n) = do
+  take at p
+  s ← state
+  u ← by (pointer_to s.structs at t)
+  give (typed (core.addr (core.index p (core.const I16 (pos 0)))) u)
+read_at at p (int t) = give (typed (core.read p at) (int t))
+read_at at p (pointer t) = give (typed (core.read p at) (pointer t))
+read_at at p _ = by (refuse (BadType at))
+
+-- parts that come one after the other are joined from the left; no part is 0
+abbrev pub joined : List Expr → Expr
+joined [] = core.const I16 (pos 0)
+joined (e ∷ es) = fold core.comma e es
+
+abbrev pub as_value : Pos → Found → Elab Typed
+as_value at (a_value v) = give v
+as_value at (a_place p types t is_const) = read_at at p t
+as_value at (a_copy steps p k) = give (typed (joined steps) (struct k))
+
+abbrev pub addressed : Pos → Found → Elab Found
+addressed at f = do
+  p ← by (a_target at f)
+  take at p.place
+  s ← state
+  t ← by (pointer_to s.structs at p.ty)
+  give (value_found (core.addr p.place) t)
+
+-- ---- elements
+
+-- what has elements: an array stays a place, all else is a value
+abbrev pub indexed_by : Pos → Place → List IntType → Ty → (is_const : Bool) → Elab Found
+indexed_by at p types (array t n) is_const = give (a_place p types (array t n) is_const)
+indexed_by at p types t is_const = do
+  v ← read_at at p t
+  give (a_value v)
+
+abbrev pub indexed : Pos → Found → Elab Found
+indexed at (a_place p types t is_const) = indexed_by at p types t is_const
+indexed at (a_value v) = give (a_value v)
+indexed at (a_copy steps p k) = by (refuse (BadType at))
+
+abbrev pub element : List Struct → Pos → Found → Typed → Rule Found
+element structs at (a_place p types (array t n) is_const) i = element_of at p types t is_const i
+element structs at (a_value v) i = element_behind structs at v i
+element structs at _ i = refuse (BadType at)
+
+-- ---- operators
+
+-- the first value waits in a local while the second is made
+abbrev pub exchanged : BinOp → Pos → Typed → Typed → Elab Found
+exchanged o at x y = do
+  c ← by (comparable at x y)
+  first ← fresh (int c.at_type)
+  give (value_found (core.comma
+    (core.assign (core.local first) c.first at)
+    (core.bin o c.at_type c.second (core.read (core.local first) at))) (int I16))
+
+-- i + p, where i waits in a local
+abbrev pub moved_behind : IntType → Pos → Typed → Typed → Elab Found
+moved_behind a at x y = do
+  s ← state
+  t ← by (pointed at y.ty)
+  n ← by (size_behind s.structs at t)
+  first ← fresh (int a)
+  give (value_found (core.comma
+    (core.assign (core.local first) x.expr at)
+    (core.offset y.expr (core.read (core.local first) at) n)) (pointer t))
+
+abbrev pub added_to : Pos → Typed → Typed → (a b : Option IntType) → Elab Found
+added_to at x y (Some a) (Some b) = by (arithmetic bin_op.Add at x y)
+added_to at x y (Some a) None = moved_behind a at x y
+added_to at x y None b = do
+  s ← state
+  by (moved s.structs at x y)
+
+abbrev pub added : Pos → Typed → Typed → Elab Found
+added at x y = added_to at x y (int_of x.ty) (int_of y.ty)
+
+abbrev pub binary : InOp → Pos → Typed → Typed → Elab Found
+binary op.Mul at x y = by (arithmetic bin_op.Mul at x y)
+binary op.Div at x y = by (arithmetic bin_op.Div at x y)
+binary op.Rem at x y = by (arithmetic bin_op.Rem at x y)
+binary op.Add at x y = added at x y
+binary op.Sub at x y = do
+  s ← state
+  by (subtracted s.structs at x y)
+binary op.Shl at x y = by (shifted bin_op.Shl at x y)
+binary op.Shr at x y = by (shifted bin_op.Shr at x y)
+binary op.Lt at x y = by (compared bin_op.Lt at x y)
+binary op.Gt at x y = exchanged bin_op.Lt at x y
+binary op.Le at x y = by (compared bin_op.Le at x y)
+binary op.Ge at x y = exchanged bin_op.Le at x y
+binary op.Eq at x y = by (compared bin_op.Eq at x y)
+binary op.Ne at x y = by (compared bin_op.Ne at x y)
+binary op.And at x y = by (arithmetic bin_op.And at x y)
+binary op.Xor at x y = by (arithmetic bin_op.Xor at x y)
+binary op.Or at x y = by (arithmetic bin_op.Or at x y)
+binary op.AndAnd at x y = by (both at x y)
+binary op.OrOr at x y = by (either at x y)
+
+-- `&`, `*` and the others; `++` and `--` give the new value
+abbrev pub prefixed : PreOp → (at at_operand : Pos) → Found → Elab Found
+prefixed pre.Addr at at_operand f = addressed at f
+prefixed pre.Deref at at_operand f = do
+  v ← as_value at_operand f
+  s ← state
+  by (dereferenced s.structs at v)
+prefixed pre.Plus at at_operand f = do
+  v ← as_value at_operand f
+  by (plus at v)
+prefixed pre.Neg at at_operand f = do
+  v ← as_value at_operand f
+  by (minus at v)
+prefixed pre.Not at at_operand f = do
+  v ← as_value at_operand f
+  by (complement at v)
+prefixed pre.IsZero at at_operand f = do
+  v ← as_value at_operand f
+  by (is_zero at v)
+prefixed pre.Inc at at_operand f = do
+  p ← by (assignable at f)
+  s ← state
+  by (incremented s.structs at false p)
+prefixed pre.Dec at at_operand f = do
+  p ← by (assignable at f)
+  s ← state
+  by (decremented s.structs at false p)
+
+-- ---- structs
+
+pub record Frozen : Type 0 where
+  pub steps : List Expr
+  pub place : Place
+
+-- a value that goes to a fresh local, and its local
+abbrev pub kept : Pos → Ty → Expr → Elab Frozen
+kept at t e = do
+  x ← fresh t
+  give (record { steps = core.assign (core.local x) e at ∷ []; place = core.local x })
+
+abbrev pub behind : Frozen → Frozen → (Place → Place) → Frozen
+behind first second make = record { steps = first.steps ++ second.steps; place = make first.place }
+
+-- each index and each dereferenced pointer of the place goes, left to right, to a fresh local
+abbrev pub frozen : Pos → Place → (indexes : List IntType) → Elab Frozen
+frozen at (core.object k) types = give (record { steps = []; place = core.object k })
+frozen at (core.local x) types = give (record { steps = []; place = core.local x })
+frozen at (core.deref e t) types = do
+  p ← kept at (pointer t) e
+  give (record { steps = p.steps; place = core.deref (core.read p.place at) t })
+frozen at (core.index p e) (t ∷ types) = do
+  f ← frozen at p types
+  i ← kept at (int t) e
+  give (record { steps = f.steps ++ i.steps; place = core.index f.place (core.read i.place at) })
+frozen at (core.index p e) [] = by (refuse (BadType at))
+frozen at (core.field p k) types = do
+  f ← frozen at p types
+  give (record { steps = f.steps; place = core.field f.place k })
+
+-- a way from a place to one of its parts: elements and fields
+pub data Step : Type 0 where
+  to_element : ℕ → Step
+  to_field : ℕ → Step
+
+abbrev pub step_from : Place → Step → Place
+step_from p (to_element i) = core.index p (core.const I16 (pos i))
+step_from p (to_field k) = core.field p k
+
+abbrev pub part_at : Place → List Step → Place
+part_at p steps = fold step_from p steps
+
+abbrev pub through : Step → List (List Step) → List (List Step)
+through step ways = map (λ way. step ∷ way) ways
+
+-- the ways to the numbers and pointers in a value of the type, in order; given those of the structs
+abbrev pub ways_in : (ℕ → List (List Step)) → Ty → List (List Step)
+ways_in of_struct void = []
+ways_in of_struct (int t) = [] ∷ []
+ways_in of_struct (pointer t) = [] ∷ []
+ways_in of_struct (array t n) = flat_map (λ i. through (to_element i) (ways_in of_struct t)) (range_with_len 0 n)
+ways_in of_struct (struct k) = of_struct k
+
+abbrev pub ways_of_fields : (ℕ → List (List Step)) → (k : ℕ) → List Field → List (List Step)
+ways_of_fields of_struct k [] = []
+ways_of_fields of_struct k (f ∷ fs) = through (to_field k) (ways_in of_struct f.ty) ++ ways_of_fields of_struct (suc k) fs
+
+-- structs stand at most so deep in one another
+abbrev pub ways_of_struct : List Struct → (depth : ℕ) → ℕ → List (List Step)
+ways_of_struct structs zero k = []
+ways_of_struct structs (suc depth) k =
+  elim (slice_get structs k) [ None ↦ [] | Some s ↦ ways_of_fields (ways_of_struct structs depth) 0 s.fields ]
+
+abbrev pub ways : List Struct → ℕ → List (List Step)
+ways structs k = ways_of_struct structs (length structs) k
+
+-- one Assign for each field and element
+abbrev pub copies : (at at_value : Pos) → Place → Place → List (List Step) → List Expr
+copies at at_value p q ways = map (λ way. core.assign (part_at p way) (core.read (part_at q way) at_value) at) ways
+
+-- from a place
+abbrev pub place_copied : (at at_value : Pos) → Target → (struct : ℕ) → Place → (indexes : List IntType) → Elab Found
+place_copied at at_value p k q types = do
+  f ← frozen at p.place p.indexes
+  g ← frozen at_value q types
+  s ← state
+  give (a_copy (f.steps ++ g.steps ++ copies at at_value f.place g.place (ways s.structs k)) f.place k)
+
+-- from what another assignment stored to, which comes first and is not evaluated again
+abbrev pub copy_copied : (at at_value : Pos) → Target → (struct : ℕ) → (steps : List Expr) → Place → Elab Found
+copy_copied at at_value p k steps q = do
+  f ← frozen at p.place p.indexes
+  s ← state
+  give (a_copy (steps ++ f.steps ++ copies at at_value f.place q (ways s.structs k)) f.place k)
+
+abbrev pub is_number : ℕ → Option ℕ → Bool
+is_number k None = false
+is_number k (Some j) = nat_eq k j
+
+abbrev pub copied : (at at_value : Pos) → Target → (struct : ℕ) → Found → Elab Found
+copied at at_value p k (a_place q types t is_const) =
+  if is_number k (struct_number t) then place_copied at at_value p k q types else by (refuse (BadType at_value))
+copied at at_value p k (a_copy steps q j) =
+  if nat_eq k j then copy_copied at at_value p k steps q else by (refuse (BadType at_value))
+copied at at_value p k (a_value v) = by (refuse (BadType at_value))
+
+abbrev pub stored_by : (at at_value : Pos) → Target → Found → (struct : Option ℕ) → Elab Found
+stored_by at at_value p f (Some k) = copied at at_value p k f
+stored_by at at_value p f None = do
+  v ← as_value at_value f
+  by (assigned at at_value p v)
+
+-- `=`, or the operator before it
+abbrev pub stored : Option InOp → (at at_value : Pos) → Target → Found → Elab Found
+stored None at at_value p f = stored_by at at_value p f (struct_number p.ty)
+stored (Some o) at at_value p f = do
+  v ← as_value at_value f
+  s ← state
+  by (updated s.structs at false o p v)
+
+-- ---- calls of items (nesC)
+
+-- the place of a dispatch body among those that are needed
+abbrev pub is_asked : (instance item : ℕ) → Asked → Bool
+is_asked instance item a = nat_eq a.instance instance && nat_eq a.item item
+
+abbrev pub place_among : (k : ℕ) → List Asked → (instance item : ℕ) → Option ℕ
+place_among k [] instance item = None
+place_among k (a ∷ rest) instance item = if is_asked instance item a then Some k else place_among (suc k) rest instance item
+
+abbrev pub ask : (instance item : ℕ) → Pos → Option ℕ → Elab ℕ
+ask instance item at (Some k) = give k
+ask instance item at None = λ s. Ok (length s.asked, record s { asked = s.asked ++ (record { instance = instance; item = item; at = at } ∷ []) })
+
+-- the one body, or a dispatch body
+abbrev pub body_reached : Env → Pos → (item : ℕ) → Option ℕ → Elab ℕ
+body_reached env at item (Some body) = give body
+body_reached env at item None = do
+  s ← state
+  k ← ask env.instance item at (place_among 0 s.asked env.instance item)
+  give (env.first_dispatch + k)

@@ -1,0 +1,4 @@
+//! The wired program of expressions: rules that look at no part of a tree.
+#![tactic(auto)]
+
+mod rows;
