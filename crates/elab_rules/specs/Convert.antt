@@ -103,9 +103,14 @@ abbrev pub is_void : Ty → Bool
 is_void void = true
 is_void _ = false
 
+-- the type of `NULL` alone
+abbrev pub is_null : Ty → Bool
+is_null (pointer t) = is_void t
+is_null _ = false
+
 -- a pointer of this type, or `NULL`
 abbrev pub fits_pointer : Ty → Ty → Bool
-fits_pointer t u = if same_type u null_type then true else same_type t u
+fits_pointer t u = if is_null u then true else same_type t u
 
 -- the one type of two pointers, of which either may be `NULL`; this is what it points to
 abbrev pub pointed_by_both : Pos → (t u : Ty) → Rule Ty

@@ -6,6 +6,7 @@ pub mod Operators
 pub mod Places
 pub mod Ends
 pub mod Wired
+pub mod View
 pub mod RowForms
 pub mod ValueRows
 pub mod PlaceRows

@@ -1,0 +1,50 @@
+-- Tables of names, seen through their entries.
+use Rattle.std.proofs.Common.{◌≡◌, ℕ, ◌+◌, ◌<◌, zero, suc, List, [], ◌∷◌, ◌++◌, length, map, take, drop, fold, get_or, Option, Some, None, if◌then◌else◌, true, false, bytes_eq, ap, ◌∙◌, sym, refl, arith}
+use Rattle.std.proofs.lemmas.List.{map_more, take-map}
+use Rattle.std.proofs.lemmas.Option.{slice_get-map}
+use Rattle.elab_rules.specs.declared.scope.Entry as rust
+use Rattle.elab_rules.specs.declared.scope.Tag as rust_tag
+use Rattle.elab_rules.specs.Scope.{newer, lookup, newer_tag, lookup_tag, declares, declares_tag}
+use Rattle.elab_rules.specs.View.{entry_of, tag_of}
+
+fold-end : {A B : Type 0} (f : B → A → B) (b : B) (xs : List A) (x : A) → fold f b (xs ++ (x ∷ [])) ≡ f (fold f b xs) x
+fold-end f b [] x = refl
+fold-end f b (y ∷ ys) x = fold-end f (f b y) ys x
+
+-- one more entry is looked at
+pub lookup-more : (name : List ℕ) (xs : List rust.Entry) (i : ℕ) (d : rust.Entry) → i < length xs
+    → lookup (map entry_of (take (i + 1) xs)) name ≡ newer name (lookup (map entry_of (take i xs)) name) (entry_of (get_or xs i d))
+lookup-more name xs i d h =
+    ap (λ es. lookup es name) (map_more entry_of xs i d h)
+    ∙ fold-end (newer name) None (map entry_of (take i xs)) (entry_of (get_or xs i d))
+
+pub lookup_tag-more : (name : List ℕ) (xs : List rust_tag.Tag) (i : ℕ) (d : rust_tag.Tag) → i < length xs
+    → lookup_tag (map tag_of (take (i + 1) xs)) name ≡ newer_tag name (lookup_tag (map tag_of (take i xs)) name) (tag_of (get_or xs i d))
+lookup_tag-more name xs i d h =
+    ap (λ es. lookup_tag es name) (map_more tag_of xs i d h)
+    ∙ fold-end (newer_tag name) None (map tag_of (take i xs)) (tag_of (get_or xs i d))
+
+-- the first of those that are left declares the name, or the others do
+pub declares-here : (name : List ℕ) (xs : List rust.Entry) (i : ℕ) (d : rust.Entry) → i < length xs
+    → declares (map entry_of (drop i xs)) name
+      ≡ (if bytes_eq (entry_of (get_or xs i d)).name name then true else declares (map entry_of (drop (i + 1) xs)) name)
+declares-here name [] i d h = absurd (omega arith)
+declares-here name (x ∷ xs) zero d h = refl
+declares-here name (x ∷ xs) (suc i) d h =
+    let e : suc i + 1 ≡ suc (i + 1) = omega arith in
+    declares-here name xs i d (omega arith)
+    ∙ ap (λ k. if bytes_eq (entry_of (get_or xs i d)).name name then true else declares (map entry_of (drop k (x ∷ xs))) name) (sym e)
+
+pub declares_tag-here : (name : List ℕ) (xs : List rust_tag.Tag) (i : ℕ) (d : rust_tag.Tag) → i < length xs
+    → declares_tag (map tag_of (drop i xs)) name
+      ≡ (if bytes_eq (tag_of (get_or xs i d)).name name then true else declares_tag (map tag_of (drop (i + 1) xs)) name)
+declares_tag-here name [] i d h = absurd (omega arith)
+declares_tag-here name (x ∷ xs) zero d h = refl
+declares_tag-here name (x ∷ xs) (suc i) d h =
+    let e : suc i + 1 ≡ suc (i + 1) = omega arith in
+    declares_tag-here name xs i d (omega arith)
+    ∙ ap (λ k. if bytes_eq (tag_of (get_or xs i d)).name name then true else declares_tag (map tag_of (drop k (x ∷ xs))) name) (sym e)
+
+pub ruleset tables = (lookup-more, lookup_tag-more, declares-here, declares_tag-here, slice_get-map)
+
+pub ruleset cuts = (take-map)

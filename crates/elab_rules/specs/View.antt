@@ -1,0 +1,98 @@
+-- Names, values and the state of the work seen as plain data (own).
+use Rattle.std.specs.Prelude.{ℕ, List, map}
+use Rattle.nesc_core.specs.View.{type_of, expr_of, place_of, field_of}
+use Rattle.nesc_core.specs.Plain.{Ty, Expr}
+use Rattle.elab_rules.specs.declared.scope.Meaning as meaning
+use Rattle.elab_rules.specs.declared.scope.Meaning.TheVariants as M
+use Rattle.elab_rules.specs.declared.scope.Entry as entry
+use Rattle.elab_rules.specs.declared.scope.Kind as kind
+use Rattle.elab_rules.specs.declared.scope.Kind.TheVariants as K
+use Rattle.elab_rules.specs.declared.scope.Tag as tag
+use Rattle.elab_rules.specs.declared.scope.Struct as struct
+use Rattle.elab_rules.specs.declared.scope.Unique as unique
+use Rattle.elab_rules.specs.declared.scope.UniqueCount as unique_count
+use Rattle.elab_rules.specs.declared.scope.Item as item
+use Rattle.elab_rules.specs.declared.scope.Env as env
+use Rattle.elab_rules.specs.declared.work.Asked as asked
+use Rattle.elab_rules.specs.declared.work.Work.{Work}
+use Rattle.elab_rules.specs.declared.found.Typed as typed
+use Rattle.elab_rules.specs.declared.found.Found as found
+use Rattle.elab_rules.specs.declared.found.Found.TheVariants as F
+use Rattle.elab_rules.specs.declared.found.Target as target
+use Rattle.elab_rules.specs.Scope as p
+use Rattle.elab_rules.specs.Scope.{Meaning, Entry, Kind, Tag, Struct, Unique, UniqueCount, Item, Env}
+use Rattle.elab_rules.specs.Elab.{Asked, State}
+use Rattle.elab_rules.specs.Convert.{Typed, Found, a_place, a_value, a_copy, Target}
+
+abbrev pub meaning_of : meaning.Meaning → Meaning
+meaning_of (M.Object k t is_const) = p.object k (type_of t) is_const
+meaning_of (M.Local x t is_const) = p.local x (type_of t) is_const
+meaning_of (M.Function body params result) = p.function body (map type_of params) (type_of result)
+meaning_of (M.Task k) = p.task k
+meaning_of (M.Constant t n) = p.constant t n
+meaning_of (M.Type t is_const) = p.type (type_of t) is_const
+
+abbrev pub entry_of : entry.Entry → Entry
+entry_of e = record { name = e.name; meaning = meaning_of e.meaning }
+
+abbrev pub kind_of : kind.Kind → Kind
+kind_of (K.Struct k) = p.a_struct k
+kind_of K.Enum = p.an_enum
+
+abbrev pub tag_of : tag.Tag → Tag
+tag_of t = record { name = t.name; kind = kind_of t.kind }
+
+abbrev pub struct_of : struct.Struct → Struct
+struct_of s = record { fields = map field_of s.fields.items; consts = s.consts.items; layout = s.layout }
+
+abbrev pub unique_of : unique.Unique → Unique
+unique_of u = record { at = u.at; number = u.number }
+
+abbrev pub unique_count_of : unique_count.UniqueCount → UniqueCount
+unique_count_of c = record { text = c.text; count = c.count }
+
+abbrev pub item_of : item.Item → Item
+item_of i = record {
+  element = i.element;
+  name = i.name;
+  is_signal = i.is_signal;
+  parameter = i.parameter;
+  params = map type_of i.params;
+  result = type_of i.result;
+  body = i.body;
+}
+
+abbrev pub env_of : env.Env → Env
+env_of e = record {
+  instance = e.instance;
+  uniques = map unique_of e.uniques;
+  counts = map unique_count_of e.counts;
+  items = map item_of e.items;
+  first_dispatch = e.first_dispatch;
+}
+
+abbrev pub asked_of : asked.Asked → Asked
+asked_of a = record { instance = a.instance; item = a.item; at = a.at }
+
+abbrev pub state_of : Work → State
+state_of w = record {
+  names = map entry_of w.names.items;
+  tags = map tag_of w.tags.items;
+  first_name = w.first_name;
+  first_tag = w.first_tag;
+  structs = map struct_of w.structs.items;
+  locals = map type_of w.locals.items;
+  taken = w.taken.items;
+  asked = map asked_of w.asked.items;
+}
+
+abbrev pub typed_of : typed.Typed → Typed
+typed_of v = record { expr = expr_of v.expr; ty = type_of v.ty }
+
+abbrev pub found_of : found.Found → Found
+found_of (F.Place place types t is_const) = a_place (place_of place) types.items (type_of t) is_const
+found_of (F.Value v) = a_value (typed_of v)
+found_of (F.Copy steps place k) = a_copy (map expr_of steps.items) (place_of place) k
+
+abbrev pub target_of : target.Target → Target
+target_of t = record { place = place_of t.place; indexes = t.indexes.items; ty = type_of t.ty }
