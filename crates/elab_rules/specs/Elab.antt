@@ -64,10 +64,25 @@ add_tag name kind = λ s. Ok (tt, record s { tags = s.tags ++ (record { name = n
 abbrev pub add_struct : Struct → Elab (Unit {0})
 add_struct x = λ s. Ok (tt, record s { structs = s.structs ++ (x ∷ []) })
 
--- work of which the names and structs alone stay: what `sizeof` looks at is not evaluated
-abbrev pub unevaluated_in : {A : Type 0} → State → Rule (A × State) → Rule (A × State)
-unevaluated_in old (Ok x) = Ok (x.0, record x.1 { locals = old.locals; taken = old.taken; asked = old.asked })
-unevaluated_in old (Err e) = Err e
+-- ---- what `sizeof` looks at is not evaluated: of the work on it the names and structs alone stay
+
+pub record Aside : Type 0 where
+  pub locals : List Ty
+  pub taken : List ℕ
+  pub asked : List Asked
+
+abbrev pub aside : State → Aside
+aside s = record { locals = s.locals; taken = s.taken; asked = s.asked }
+
+abbrev pub with_aside : Aside → State → State
+with_aside a s = record s { locals = a.locals; taken = a.taken; asked = a.asked }
+
+abbrev pub alone : State → State
+alone s = with_aside (record { locals = []; taken = []; asked = [] }) s
+
+abbrev pub back_in : {A : Type 0} → (old : State) → Rule (A × State) → Rule (A × State)
+back_in old (Ok x) = Ok (x.0, with_aside (aside old) x.1)
+back_in old (Err e) = Err e
 
 abbrev pub unevaluated : {A : Type 0} → Elab A → Elab A
-unevaluated work = λ s. unevaluated_in s (work s)
+unevaluated work = λ s. back_in s (work (alone s))

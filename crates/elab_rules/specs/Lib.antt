@@ -7,6 +7,7 @@ pub mod Places
 pub mod Ends
 pub mod Wired
 pub mod View
+pub mod Laws
 pub mod RowForms
 pub mod ValueRows
 pub mod PlaceRows

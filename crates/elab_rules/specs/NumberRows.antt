@@ -14,7 +14,7 @@ use Rattle.nesc_tree.specs.Plain as s
 use Rattle.elab_rules.specs.Elab.{State}
 use Rattle.elab_rules.specs.Convert.{Typed}
 use Rattle.elab_rules.specs.Wired.{value}
-use Rattle.elab_rules.specs.RowForms.{at, n, v, bin, pre, post, set, update, choice, comma, at_index, spec, world, start}
+use Rattle.elab_rules.specs.RowForms.{at, n, v, bin, pre, post, set, update, choice, comma, at_index, spec, world, values, start}
 
 -- a program whose objects are not looked at, and calls that do nothing
 abbrev pub program : Program
@@ -35,7 +35,7 @@ performed (Err e) = []
 
 -- port_write(0x0130, e)
 abbrev pub written : s.Expr → List Action
-written e = performed (value world (s.port_write (n (codes "0x0130") 12) e (at 1)) start)
+written e = performed (value world values (s.port_write (n (codes "0x0130") 12) e (at 1)) start)
 
 pub record Number : Type 0 where
   pub expr : s.Expr

@@ -1,5 +1,5 @@
 -- Operators, names and types: rules that look at no state (C99, 6.5 and 6.7; own where C leaves it open).
-use Rattle.std.specs.Prelude.{ℕ, ℤ, pos, negsuc, zero, suc, nat_eq, nat_le, int_le, Bool, true, false, if◌then◌else◌, List, [], ◌∷◌, ◌++◌, length, drop, slice_get, slice_index_or, Option, Some, None, Ok}
+use Rattle.std.specs.Prelude.{ℕ, ℤ, pos, negsuc, zero, suc, nat_eq, nat_lt, nat_le, int_le, Bool, true, false, if◌then◌else◌, List, [], ◌∷◌, ◌++◌, length, drop, slice_get, slice_index_or, Option, Some, None, Ok}
 use Rattle.nm_base.specs.declared.pos.Pos.{Pos}
 use Rattle.nm_base.specs.declared.int_type.IntType.{IntType}
 use Rattle.nm_base.specs.declared.int_type.IntType.TheVariants.{U8, I16, U16, I32}
@@ -24,7 +24,7 @@ use Rattle.nesc_types.specs.Literals.{candidates, first_holding}
 use Rattle.nesc_types.specs.Rule.{Rule, ◌>>=◌, refuse, or_refuse}
 use Rattle.nesc_types.specs.Values.{Constant}
 use Rattle.elab_rules.specs.Scope.{Entry, Struct, Kind, a_struct, an_enum, Item, Meaning, object, local, function, task, constant, type, lookup, in_scope, tag_in_scope, field_from, has_field, Tag}
-use Rattle.elab_rules.specs.Convert.{Typed, typed, Found, a_place, a_value, a_copy, value_found, Target, small, layout_in, size, size_behind, to_int, int_of, integer, pointed, pointed_by_both, struct_number, is_void, scalar, converted}
+use Rattle.elab_rules.specs.Convert.{Typed, typed, Found, a_place, a_value, a_copy, value_found, Target, small, layout_in, size, size_behind, to_int, int_of, integer, pointed, pointed_by_both, struct_number, is_void, scalar, converted, assignable}
 
 -- ---- constants and names
 
@@ -44,10 +44,13 @@ with_type n (Some t) = Some (t, pos n)
 abbrev pub decimal : ℕ → Option Constant
 decimal n = with_type n (first_holding n (candidates true false false))
 
+abbrev pub fits_literal : Pos → Option Constant → Rule Constant
+fits_literal at x = or_refuse (BadType at) x
+
 -- the number of a use of `unique` or `uniqueCount`
 abbrev pub counted : Pos → Option ℕ → Rule Constant
 counted at None = refuse (NotConstant at)
-counted at (Some n) = or_refuse (BadType at) (decimal n)
+counted at (Some n) = fits_literal at (decimal n)
 
 -- `sizeof`
 abbrev pub sized : List Struct → Pos → Ty → Rule Constant
@@ -55,20 +58,26 @@ sized structs at t = do
   n ← size structs at t
   Ok (U16, pos n)
 
+abbrev pub meant : Pos → Meaning → Rule Found
+meant at (object k t is_const) = Ok (a_place (core.object k) [] t is_const)
+meant at (local x t is_const) = Ok (a_place (core.local x) [] t is_const)
+meant at (constant t n) = Ok (const_of (t, n))
+meant at (function body params result) = refuse (BadType at)
+meant at (task k) = refuse (BadType at)
+meant at (type t is_const) = refuse (BadType at)
+
 abbrev pub named : Pos → Option Meaning → Rule Found
-named at (Some (object k t is_const)) = Ok (a_place (core.object k) [] t is_const)
-named at (Some (local x t is_const)) = Ok (a_place (core.local x) [] t is_const)
-named at (Some (constant t n)) = Ok (const_of (t, n))
-named at (Some (function body params result)) = refuse (BadType at)
-named at (Some (task k)) = refuse (BadType at)
-named at (Some (type t is_const)) = refuse (BadType at)
+named at (Some m) = meant at m
 named at None = refuse (UnknownName at)
+
+abbrev pub meant_in_constant : (whole : Pos) → Meaning → Rule Constant
+meant_in_constant whole (constant t n) = Ok (t, n)
+meant_in_constant whole _ = refuse (NotConstant whole)
 
 -- a name in a constant; the whole constant is refused
 abbrev pub constant_named : (whole at : Pos) → Option Meaning → Rule Constant
-constant_named whole at (Some (constant t n)) = Ok (t, n)
+constant_named whole at (Some m) = meant_in_constant whole m
 constant_named whole at None = refuse (UnknownName at)
-constant_named whole at (Some _) = refuse (NotConstant whole)
 
 -- a port: 0x0100, 0x0102, or an even number from 0x0120 to 0x015E
 abbrev pub port : Pos → ℤ → Rule ℕ
@@ -145,21 +154,21 @@ moved structs at x y = do
   Ok (value_found e (pointer t))
 
 -- p - i
-abbrev pub moved_back : List Struct → Pos → Ty → IntType → Typed → Typed → Rule Found
+abbrev pub moved_back : List Struct → Pos → Ty → IntType → Expr → Expr → Rule Found
 moved_back structs at t b x y = do
-  e ← offset structs at x.expr (negated b y.expr) t
+  e ← offset structs at x (negated b y) t
   Ok (value_found e (pointer t))
 
 -- p - q
-abbrev pub distance : List Struct → Pos → Ty → Typed → Typed → Rule Found
+abbrev pub distance : List Struct → Pos → Ty → Expr → Typed → Rule Found
 distance structs at t x y = do
   u ← pointed at y.ty
   v ← pointed_by_both at t u
   n ← size_behind structs at v
-  Ok (value_found (core.distance x.expr y.expr n) (int I16))
+  Ok (value_found (core.distance x y.expr n) (int I16))
 
-abbrev pub subtracted_from : List Struct → Pos → Typed → Typed → Option IntType → Ty → Rule Found
-subtracted_from structs at x y (Some b) t = moved_back structs at t b x y
+abbrev pub subtracted_from : List Struct → Pos → Expr → Typed → Option IntType → Ty → Rule Found
+subtracted_from structs at x y (Some b) t = moved_back structs at t b x y.expr
 subtracted_from structs at x y None t = distance structs at t x y
 
 -- `-`, of two numbers, a pointer and a number, or two pointers
@@ -167,7 +176,7 @@ abbrev pub subtracted_by : List Struct → Pos → Typed → Typed → Option In
 subtracted_by structs at x y (Some a) = arithmetic bin_op.Sub at x y
 subtracted_by structs at x y None = do
   t ← pointed at x.ty
-  subtracted_from structs at x y (int_of y.ty) t
+  subtracted_from structs at x.expr y (int_of y.ty) t
 
 abbrev pub subtracted : List Struct → Pos → Typed → Typed → Rule Found
 subtracted structs at x y = subtracted_by structs at x y (int_of x.ty)
@@ -175,23 +184,29 @@ subtracted structs at x y = subtracted_by structs at x y (int_of x.ty)
 -- ---- comparisons (C99, 6.5.8 and 6.5.9)
 
 -- what is compared, at one type
-pub record Compared : Type 0 where
+pub record Sides : Type 0 where
   pub at_type : IntType
   pub first : Expr
   pub second : Expr
 
-abbrev pub comparable_by : Pos → Typed → Typed → Option IntType → Rule Compared
+abbrev pub compared_numbers : (a b : IntType) → Expr → Expr → Sides
+compared_numbers a b x y = record { at_type = common a b; first = to_int (common a b) a x; second = to_int (common a b) b y }
+
+abbrev pub compared_pointers : Expr → Expr → Sides
+compared_pointers x y = record { at_type = U16; first = address x; second = address y }
+
+abbrev pub comparable_by : Pos → Typed → Typed → Option IntType → Rule Sides
 comparable_by at x y (Some a) = do
   b ← integer at y.ty
-  Ok (record { at_type = common a b; first = to_int (common a b) a x.expr; second = to_int (common a b) b y.expr })
+  Ok (compared_numbers a b x.expr y.expr)
 comparable_by at x y None = do
   t ← pointed at x.ty
   u ← pointed at y.ty
   v ← pointed_by_both at t u
-  Ok (record { at_type = U16; first = address x.expr; second = address y.expr })
+  Ok (compared_pointers x.expr y.expr)
 
 -- two numbers, or two pointers of one type
-abbrev pub comparable : Pos → Typed → Typed → Rule Compared
+abbrev pub comparable : Pos → Typed → Typed → Rule Sides
 comparable at x y = comparable_by at x y (int_of x.ty)
 
 abbrev pub compared : BinOp → Pos → Typed → Typed → Rule Found
@@ -213,20 +228,25 @@ either at x y = do
   b ← scalar at y
   Ok (value_found (core.either a b) (int I16))
 
--- two voids, or two pointers of one type
-abbrev pub chosen_of : Pos → Expr → Typed → Typed → Bool → Rule Found
-chosen_of at test y z true = if is_void z.ty then Ok (value_found (core.choice test y.expr z.expr) void) else refuse (BadType at)
-chosen_of at test y z false = do
+abbrev pub chosen_numbers : Pos → (test : Expr) → IntType → Expr → Typed → Rule Found
+chosen_numbers at test a y z = do
+  b ← integer at z.ty
+  Ok (value_found (core.choice test (to_int (common a b) a y) (to_int (common a b) b z.expr)) (int (common a b)))
+
+abbrev pub chosen_voids : Pos → (test : Expr) → Expr → Typed → Rule Found
+chosen_voids at test y z = if is_void z.ty then Ok (value_found (core.choice test y z.expr) void) else refuse (BadType at)
+
+abbrev pub chosen_pointers : Pos → (test : Expr) → Typed → Typed → Rule Found
+chosen_pointers at test y z = do
   t ← pointed at y.ty
   u ← pointed at z.ty
   v ← pointed_by_both at t u
   Ok (value_found (core.choice test y.expr z.expr) (pointer v))
 
-abbrev pub chosen_by : Pos → Expr → Typed → Typed → Option IntType → Rule Found
-chosen_by at test y z (Some a) = do
-  b ← integer at z.ty
-  Ok (value_found (core.choice test (to_int (common a b) a y.expr) (to_int (common a b) b z.expr)) (int (common a b)))
-chosen_by at test y z None = chosen_of at test y z (is_void y.ty)
+-- two numbers at their common type, two voids, or two pointers of one type
+abbrev pub chosen_by : Pos → (test : Expr) → Typed → Typed → Option IntType → Rule Found
+chosen_by at test y z (Some a) = chosen_numbers at test a y.expr z
+chosen_by at test y z None = if is_void y.ty then chosen_voids at test y.expr z else chosen_pointers at test y z
 
 abbrev pub chosen : Pos → Typed → Typed → Typed → Rule Found
 chosen at x y z = do
@@ -238,12 +258,15 @@ comma x y = value_found (core.comma x.expr y.expr) y.ty
 
 -- ---- places (C99, 6.5.2.1, 6.5.2.3 and 6.5.3.2)
 
--- what is behind a pointer, which is never const (own)
+-- what is behind a pointer is never const (own)
+abbrev pub behind : Expr → Ty → Found
+behind p t = a_place (core.deref p t) [] t false
+
 abbrev pub dereferenced : List Struct → Pos → Typed → Rule Found
 dereferenced structs at v = do
   t ← pointed at v.ty
   n ← size_behind structs at t
-  Ok (a_place (core.deref v.expr t) [] t false)
+  Ok (behind v.expr t)
 
 -- an element of what a pointer points to
 abbrev pub element_behind : List Struct → Pos → Typed → Typed → Rule Found
@@ -251,7 +274,7 @@ element_behind structs at v i = do
   t ← pointed at v.ty
   b ← integer at i.ty
   e ← offset structs at v.expr i.expr t
-  Ok (a_place (core.deref e t) [] t false)
+  Ok (behind e t)
 
 abbrev pub element_of : Pos → Place → List IntType → (part : Ty) → (is_const : Bool) → Typed → Rule Found
 element_of at p types t is_const i = do
@@ -263,13 +286,20 @@ pub record FieldFound : Type 0 where
   pub ty : Ty
   pub is_const : Bool
 
-abbrev pub field_in : Pos → Struct → Option (ℕ × Ty) → Rule FieldFound
-field_in at s None = refuse (UnknownName at)
-field_in at s (Some f) = Ok (record { number = f.0; ty = f.1; is_const = slice_index_or s.consts f.0 false })
+abbrev pub numbered : ℕ → Ty → Rule (ℕ × Ty)
+numbered k t = Ok (k, t)
+
+abbrev pub field_named : Pos → Option (ℕ × Ty) → Rule (ℕ × Ty)
+field_named at f = or_refuse (UnknownName at) f
+
+abbrev pub field_in : Pos → Struct → List ℕ → Rule FieldFound
+field_in at s name = do
+  f ← field_named at (field_from 0 s.fields name)
+  Ok (record { number = f.0; ty = f.1; is_const = slice_index_or s.consts f.0 false })
 
 abbrev pub field_of : Pos → Option Struct → List ℕ → Rule FieldFound
 field_of at None name = refuse (BadType at)
-field_of at (Some s) name = field_in at s (field_from 0 s.fields name)
+field_of at (Some s) name = field_in at s name
 
 abbrev pub field_at : List Struct → Pos → List ℕ → Option ℕ → Rule FieldFound
 field_at structs at name None = refuse (BadType at)
@@ -310,30 +340,33 @@ bytes_of structs at t v = do
   n ← size_behind structs at t
   Ok (core.bin bin_op.Mul U16 (to_int U16 b v.expr) (core.const U16 (pos n)))
 
-abbrev pub updated_at_common : BinOp → Pos → (gives_old : Bool) → Target → Typed → IntType → Rule Found
+abbrev pub update_found : Pos → (gives_old : Bool) → BinOp → IntType → Place → Expr → Ty → Rule Found
+update_found at gives_old o t p e ty = Ok (value_found (core.update p o t e gives_old at) ty)
+
+abbrev pub updated_at_common : BinOp → Pos → (gives_old : Bool) → Place → Typed → IntType → Rule Found
 updated_at_common o at gives_old p v a = do
   b ← integer at v.ty
-  Ok (value_found (core.update p.place o (common a b) (to_int (common a b) b v.expr) gives_old at) (int a))
+  update_found at gives_old o (common a b) p (to_int (common a b) b v.expr) (int a)
 
 abbrev pub number_updated : BinOp → Pos → (gives_old : Bool) → Target → Typed → Rule Found
 number_updated o at gives_old p v = do
   a ← integer at p.ty
-  updated_at_common o at gives_old p v a
+  updated_at_common o at gives_old p.place v a
 
 -- at the promoted left type
 abbrev pub shift_updated : BinOp → Pos → (gives_old : Bool) → Target → Typed → Rule Found
 shift_updated o at gives_old p v = do
   a ← integer at p.ty
   b ← integer at v.ty
-  Ok (value_found (core.update p.place o (promoted a) (promoted_value b v.expr) gives_old at) (int a))
+  update_found at gives_old o (promoted a) p.place (promoted_value b v.expr) (int a)
 
 -- `+` and `-`, where the place may hold a pointer, which is updated as a number
 abbrev pub step_updated_by : List Struct → BinOp → Pos → (gives_old : Bool) → Target → Typed → Option IntType → Rule Found
-step_updated_by structs o at gives_old p v (Some a) = updated_at_common o at gives_old p v a
+step_updated_by structs o at gives_old p v (Some a) = updated_at_common o at gives_old p.place v a
 step_updated_by structs o at gives_old p v None = do
   t ← pointed at p.ty
   e ← bytes_of structs at t v
-  Ok (value_found (core.update p.place o U16 e gives_old at) p.ty)
+  update_found at gives_old o U16 p.place e (pointer t)
 
 abbrev pub step_updated : List Struct → BinOp → Pos → (gives_old : Bool) → Target → Typed → Rule Found
 step_updated structs o at gives_old p v = step_updated_by structs o at gives_old p v (int_of p.ty)
@@ -368,6 +401,18 @@ incremented structs at old p = step_updated structs bin_op.Add at old p one
 abbrev pub decremented : List Struct → Pos → (gives_old : Bool) → Target → Rule Found
 decremented structs at old p = step_updated structs bin_op.Sub at old p one
 
+-- `++` and `--` before a place
+abbrev pub incremented_place : List Struct → Pos → Found → Rule Found
+incremented_place structs at f = do
+  p ← assignable at f
+  incremented structs at false p
+
+abbrev pub decremented_place : List Struct → Pos → Found → Rule Found
+decremented_place structs at f = do
+  p ← assignable at f
+  decremented structs at false p
+
+-- and behind it
 abbrev pub stepped : List Struct → Pos → PostOp → Target → Rule Found
 stepped structs at post.Inc p = incremented structs at true p
 stepped structs at post.Dec p = decremented structs at true p
@@ -384,10 +429,13 @@ pub record Signature : Type 0 where
   pub params : List Ty
   pub result : Ty
 
+abbrev pub function_meant : Pos → Meaning → Rule Signature
+function_meant at (function body params result) = Ok (record { body = body; params = params; result = result })
+function_meant at _ = refuse (BadType at)
+
 abbrev pub function_named : Pos → Option Meaning → Rule Signature
-function_named at (Some (function body params result)) = Ok (record { body = body; params = params; result = result })
+function_named at (Some m) = function_meant at m
 function_named at None = refuse (UnknownName at)
-function_named at (Some _) = refuse (BadType at)
 
 -- the function that is called
 abbrev pub callee : List Entry → s.Expr → Rule Signature
@@ -421,10 +469,13 @@ written n at_value v = do
 abbrev pub read_from : ℕ → Found
 read_from n = value_found (core.port_in n) (int U16)
 
+abbrev pub task_meant : Pos → Meaning → Rule Found
+task_meant at (task k) = Ok (value_found (core.post k) (int U8))
+task_meant at _ = refuse (BadType at)
+
 abbrev pub posted : Pos → Option Meaning → Rule Found
-posted at (Some (task k)) = Ok (value_found (core.post k) (int U8))
+posted at (Some m) = task_meant at m
 posted at None = refuse (UnknownName at)
-posted at (Some _) = refuse (BadType at)
 
 -- ---- types (C99, 6.7.2 and 6.7.5)
 
@@ -433,20 +484,24 @@ pub record Based : Type 0 where
   pub ty : Ty
   pub is_const : Bool
 
-abbrev pub based : Ty → Based
-based t = record { ty = t; is_const = false }
+abbrev pub plain_base : Ty → Based
+plain_base t = record { ty = t; is_const = false }
+
+abbrev pub type_meant : Pos → Meaning → Rule Based
+type_meant at (type t is_const) = Ok (record { ty = t; is_const = is_const })
+type_meant at _ = refuse (UnknownName at)
 
 abbrev pub type_named : Pos → Option Meaning → Rule Based
-type_named at (Some (type t is_const)) = Ok (record { ty = t; is_const = is_const })
-type_named at _ = refuse (UnknownName at)
+type_named at (Some m) = type_meant at m
+type_named at None = refuse (UnknownName at)
 
 abbrev pub struct_tagged : Pos → Option Kind → Rule Based
-struct_tagged at (Some (a_struct k)) = Ok (based (struct k))
+struct_tagged at (Some (a_struct k)) = Ok (plain_base (struct k))
 struct_tagged at (Some an_enum) = refuse (BadType at)
 struct_tagged at None = refuse (UnknownName at)
 
 abbrev pub enum_tagged : Pos → Option Kind → Rule Based
-enum_tagged at (Some an_enum) = Ok (based (int I16))
+enum_tagged at (Some an_enum) = Ok (plain_base (int I16))
 enum_tagged at (Some (a_struct k)) = refuse (BadType at)
 enum_tagged at None = refuse (UnknownName at)
 
@@ -466,25 +521,34 @@ base_behind structs at t = if is_open structs t then Ok tt else size_behind stru
 abbrev pub base_alone : List Struct → Pos → Ty → Rule (Unit {0})
 base_alone structs at t = if is_open structs t then refuse (UnknownName at) else Ok tt
 
-abbrev pub pointers : List Struct → Pos → (stars : ℕ) → Ty → Rule Ty
-pointers structs at zero t = do
+abbrev pub behind_stars : List Struct → Pos → (stars : ℕ) → Ty → Rule Ty
+behind_stars structs at stars t = do
+  u ← base_behind structs at t
+  Ok (stars_on stars t)
+
+abbrev pub without_stars : List Struct → Pos → Ty → Rule Ty
+without_stars structs at t = do
   u ← base_alone structs at t
   Ok t
-pointers structs at (suc n) t = do
-  u ← base_behind structs at t
-  Ok (stars_on (suc n) t)
 
-abbrev pub array_length : Pos → Constant → Rule ℕ
-array_length at (t, pos n) = Ok n
-array_length at (t, negsuc n) = refuse (NotConstant at)
+abbrev pub pointers : List Struct → Pos → (stars : ℕ) → Ty → Rule Ty
+pointers structs at stars t = if nat_eq stars 0 then without_stars structs at t else behind_stars structs at stars t
+
+abbrev pub array_length : Pos → ℤ → Rule ℕ
+array_length at (pos n) = if nat_lt n 4294967296 then Ok n else refuse (NotConstant at)
+array_length at (negsuc n) = refuse (NotConstant at)
+
+abbrev pub array_of : List Struct → Pos → Ty → ℕ → Rule Ty
+array_of structs at part n = do
+  m ← size structs at (array part n)
+  Ok (array part n)
 
 -- the lengths from left to right; the last is that of the innermost arrays
 abbrev pub arrays : List Struct → Pos → Ty → List ℕ → Rule Ty
 arrays structs at t [] = Ok t
 arrays structs at t (n ∷ ns) = do
-  element ← arrays structs at t ns
-  m ← size structs at (array element n)
-  Ok (array element n)
+  part ← arrays structs at t ns
+  array_of structs at part n
 
 -- ---- fields and enum constants
 
@@ -494,13 +558,24 @@ no_fields = record { fields = []; consts = []; layout = layout 0 1 }
 abbrev pub fields_with : Struct → List ℕ → Ty → Bool → Layout → Struct
 fields_with s name t is_const l = record { fields = s.fields ++ (record { name = name; ty = t } ∷ []); consts = s.consts ++ (is_const ∷ []); layout = l }
 
+-- the layout with a field of the type
+abbrev pub grown : List Struct → Pos → Layout → Ty → Rule Layout
+grown structs at done t = do
+  f ← or_refuse (BadType at) (layout_in structs t)
+  or_refuse (BadType at) (small (with_field done f))
+
+abbrev pub pushed : Struct → List ℕ → Ty → Bool → Layout → Rule Struct
+pushed s name t is_const l = Ok (fields_with s name t is_const l)
+
+abbrev pub with_new_field : List Struct → Pos → Struct → List ℕ → Ty → (is_const : Bool) → Rule Struct
+with_new_field structs at s name t is_const = do
+  l ← grown structs at s.layout t
+  pushed s name t is_const l
+
 -- one more field, whose name is new
 abbrev pub with_field_named : List Struct → Pos → Struct → List ℕ → Ty → (is_const : Bool) → Rule Struct
 with_field_named structs at s name t is_const =
-  if has_field s.fields name then refuse (DuplicateName at) else (do
-  f ← or_refuse (BadType at) (layout_in structs t)
-  l ← or_refuse (BadType at) (small (with_field s.layout f))
-  Ok (fields_with s name t is_const l))
+  if has_field s.fields name then refuse (DuplicateName at) else with_new_field structs at s name t is_const
 
 -- what pointers in the type point to has bytes, but for structs whose definition has not ended
 abbrev pub points_well : List Struct → Pos → Ty → Rule (Unit {0})

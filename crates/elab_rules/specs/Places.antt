@@ -17,8 +17,8 @@ use Rattle.nesc_tree.specs.declared.tree.InOp.TheVariants as op
 use Rattle.nesc_types.specs.Rule.{Rule, refuse}
 use Rattle.elab_rules.specs.Scope.{Struct, Env}
 use Rattle.elab_rules.specs.Elab.{Elab, Asked, by, ◌>>=◌, ◌>>◌, give, fresh, mark_taken, state}
-use Rattle.elab_rules.specs.Convert.{Typed, typed, Found, a_place, a_value, a_copy, value_found, pointer_to, size_behind, pointed, int_of, struct_number, Target, a_target, assignable}
-use Rattle.elab_rules.specs.Operators.{arithmetic, shifted, compared, comparable, moved, subtracted, both, either, plus, minus, complement, is_zero, dereferenced, element_behind, element_of, incremented, decremented, assigned, updated}
+use Rattle.elab_rules.specs.Convert.{Typed, typed, Found, a_place, a_value, a_copy, value_found, pointer_to, size_behind, pointed, int_of, struct_number, Target, a_target}
+use Rattle.elab_rules.specs.Operators.{arithmetic, shifted, compared, comparable, moved, subtracted, both, either, plus, minus, complement, is_zero, dereferenced, element_behind, element_of, incremented_place, decremented_place, assigned, updated}
 
 -- ---- places as values
 
@@ -30,13 +30,19 @@ take at (core.deref e t) = give tt
 take at (core.index p e) = take at p
 take at (core.field p k) = take at p
 
--- an array is the address of its first element; a number or a pointer is read; a struct is copied alone
-abbrev pub read_at : Pos → Place → Ty → Elab Typed
-read_at at p (array t n) = do
+abbrev pub first_element : Place → Expr
+first_element p = core.addr (core.index p (core.const I16 (pos 0)))
+
+abbrev pub decayed : Pos → Place → (part : Ty) → Elab Typed
+decayed at p t = do
   take at p
   s ← state
   u ← by (pointer_to s.structs at t)
-  give (typed (core.addr (core.index p (core.const I16 (pos 0)))) u)
+  give (typed (first_element p) u)
+
+-- an array is the address of its first element; a number or a pointer is read; a struct is copied alone
+abbrev pub read_at : Pos → Place → Ty → Elab Typed
+read_at at p (array t n) = decayed at p t
 read_at at p (int t) = give (typed (core.read p at) (int t))
 read_at at p (pointer t) = give (typed (core.read p at) (pointer t))
 read_at at p _ = by (refuse (BadType at))
@@ -73,42 +79,49 @@ indexed at (a_place p types t is_const) = indexed_by at p types t is_const
 indexed at (a_value v) = give (a_value v)
 indexed at (a_copy steps p k) = by (refuse (BadType at))
 
+abbrev pub element_at : Pos → Place → List IntType → Ty → (is_const : Bool) → Typed → Rule Found
+element_at at p types (array t n) is_const i = element_of at p types t is_const i
+element_at at p types _ is_const i = refuse (BadType at)
+
 abbrev pub element : List Struct → Pos → Found → Typed → Rule Found
-element structs at (a_place p types (array t n) is_const) i = element_of at p types t is_const i
+element structs at (a_place p types t is_const) i = element_at at p types t is_const i
 element structs at (a_value v) i = element_behind structs at v i
-element structs at _ i = refuse (BadType at)
+element structs at (a_copy steps p k) i = refuse (BadType at)
 
 -- ---- operators
+
+-- an expression that is evaluated behind another, which goes to a local
+abbrev pub behind_kept : Pos → (local : ℕ) → (kept next : Expr) → Expr
+behind_kept at local kept next = core.comma (core.assign (core.local local) kept at) next
 
 -- the first value waits in a local while the second is made
 abbrev pub exchanged : BinOp → Pos → Typed → Typed → Elab Found
 exchanged o at x y = do
   c ← by (comparable at x y)
   first ← fresh (int c.at_type)
-  give (value_found (core.comma
-    (core.assign (core.local first) c.first at)
-    (core.bin o c.at_type c.second (core.read (core.local first) at))) (int I16))
+  give (value_found (behind_kept at first c.first (core.bin o c.at_type c.second (core.read (core.local first) at))) (int I16))
 
 -- i + p, where i waits in a local
-abbrev pub moved_behind : IntType → Pos → Typed → Typed → Elab Found
+abbrev pub moved_behind : IntType → Pos → Expr → Typed → Elab Found
 moved_behind a at x y = do
   s ← state
   t ← by (pointed at y.ty)
   n ← by (size_behind s.structs at t)
   first ← fresh (int a)
-  give (value_found (core.comma
-    (core.assign (core.local first) x.expr at)
-    (core.offset y.expr (core.read (core.local first) at) n)) (pointer t))
+  give (value_found (behind_kept at first x (core.offset y.expr (core.read (core.local first) at) n)) (pointer t))
 
-abbrev pub added_to : Pos → Typed → Typed → (a b : Option IntType) → Elab Found
-added_to at x y (Some a) (Some b) = by (arithmetic bin_op.Add at x y)
-added_to at x y (Some a) None = moved_behind a at x y
-added_to at x y None b = do
+abbrev pub added_to_number : IntType → Pos → Typed → Typed → Option IntType → Elab Found
+added_to_number a at x y (Some b) = by (arithmetic bin_op.Add at x y)
+added_to_number a at x y None = moved_behind a at x.expr y
+
+abbrev pub added_to : Pos → Typed → Typed → Option IntType → Elab Found
+added_to at x y (Some a) = added_to_number a at x y (int_of y.ty)
+added_to at x y None = do
   s ← state
   by (moved s.structs at x y)
 
 abbrev pub added : Pos → Typed → Typed → Elab Found
-added at x y = added_to at x y (int_of x.ty) (int_of y.ty)
+added at x y = added_to at x y (int_of x.ty)
 
 abbrev pub binary : InOp → Pos → Typed → Typed → Elab Found
 binary op.Mul at x y = by (arithmetic bin_op.Mul at x y)
@@ -132,33 +145,36 @@ binary op.Or at x y = by (arithmetic bin_op.Or at x y)
 binary op.AndAnd at x y = by (both at x y)
 binary op.OrOr at x y = by (either at x y)
 
--- `&`, `*` and the others; `++` and `--` give the new value
+abbrev pub on_value : List Struct → PreOp → Pos → Typed → Rule Found
+on_value structs pre.Deref at v = dereferenced structs at v
+on_value structs pre.Plus at v = plus at v
+on_value structs pre.Neg at v = minus at v
+on_value structs pre.Not at v = complement at v
+on_value structs pre.IsZero at v = is_zero at v
+on_value structs pre.Addr at v = refuse (BadType at)
+on_value structs pre.Inc at v = refuse (BadType at)
+on_value structs pre.Dec at v = refuse (BadType at)
+
+abbrev pub valued_operand : PreOp → (at at_operand : Pos) → Found → Elab Found
+valued_operand o at at_operand f = do
+  v ← as_value at_operand f
+  s ← state
+  by (on_value s.structs o at v)
+
+-- `&`, `++` and `--` want a place, the others a value
 abbrev pub prefixed : PreOp → (at at_operand : Pos) → Found → Elab Found
 prefixed pre.Addr at at_operand f = addressed at f
-prefixed pre.Deref at at_operand f = do
-  v ← as_value at_operand f
-  s ← state
-  by (dereferenced s.structs at v)
-prefixed pre.Plus at at_operand f = do
-  v ← as_value at_operand f
-  by (plus at v)
-prefixed pre.Neg at at_operand f = do
-  v ← as_value at_operand f
-  by (minus at v)
-prefixed pre.Not at at_operand f = do
-  v ← as_value at_operand f
-  by (complement at v)
-prefixed pre.IsZero at at_operand f = do
-  v ← as_value at_operand f
-  by (is_zero at v)
 prefixed pre.Inc at at_operand f = do
-  p ← by (assignable at f)
   s ← state
-  by (incremented s.structs at false p)
+  by (incremented_place s.structs at f)
 prefixed pre.Dec at at_operand f = do
-  p ← by (assignable at f)
   s ← state
-  by (decremented s.structs at false p)
+  by (decremented_place s.structs at f)
+prefixed pre.Deref at at_operand f = valued_operand pre.Deref at at_operand f
+prefixed pre.Plus at at_operand f = valued_operand pre.Plus at at_operand f
+prefixed pre.Neg at at_operand f = valued_operand pre.Neg at at_operand f
+prefixed pre.Not at at_operand f = valued_operand pre.Not at at_operand f
+prefixed pre.IsZero at at_operand f = valued_operand pre.IsZero at at_operand f
 
 -- ---- structs
 

@@ -13,6 +13,7 @@ use Rattle.nesc_tree.specs.declared.tree.PostOp.{PostOp}
 use Rattle.nesc_tree.specs.Plain as s
 use Rattle.nesc_types.specs.Constant.{pos_of}
 use Rattle.nesc_types.specs.Rule.{Rule, refuse}
+use Rattle.nesc_types.specs.Values.{Constant}
 use Rattle.elab_rules.specs.Scope.{Entry, Meaning, object, local, function, task, constant, type, Tag, Kind, a_struct, an_enum, Struct, Env, Item}
 use Rattle.elab_rules.specs.Elab.{State}
 use Rattle.elab_rules.specs.Convert.{Typed}
@@ -166,7 +167,7 @@ abbrev pub item : (element name : List ℕ) → Bool → Option IntType → List
 item element name is_signal parameter params result body =
     record { element = element; name = name; is_signal = is_signal; parameter = parameter; params = params; result = result; body = body }
 
--- I.go has one target, P has a parameter, and I.done has several targets
+-- I.go and T.start have one target, P has a parameter, and I.done has several targets
 abbrev pub world : Env
 world = record {
   instance = 6;
@@ -176,9 +177,14 @@ world = record {
       item (codes "I") (codes "go") false None (int I16 ∷ []) (int U8) (Some 9)
       ∷ item (codes "P") (codes "go") false (Some U8) (int I16 ∷ []) (int U8) None
       ∷ item (codes "I") (codes "done") true None [] void None
+      ∷ item (codes "T") (codes "start") false None (int I16 ∷ []) void (Some 12)
       ∷ [];
   first_dispatch = 20;
 }
+
+-- T.start's target is of an element with a parameter, which a wire gives the value 2
+abbrev pub values : List (Option Constant)
+values = None ∷ None ∷ None ∷ Some (U8, pos 2) ∷ []
 
 -- ---- what expressions give: a value, its type, the types of fresh locals, and the objects taken
 
@@ -193,7 +199,7 @@ seen (Ok x) = Ok (record { expr = x.0.expr; ty = x.0.ty; made = drop 11 x.1.loca
 seen (Err e) = Err e
 
 abbrev pub outcome : s.Expr → Rule Outcome
-outcome e = seen (value world e start)
+outcome e = seen (value world values e start)
 
 pub record Row : Type 0 where
   pub expr : s.Expr

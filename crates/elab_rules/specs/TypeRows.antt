@@ -16,7 +16,7 @@ use Rattle.nesc_types.specs.Values.{Constant}
 use Rattle.elab_rules.specs.Scope.{Entry, constant, Struct}
 use Rattle.elab_rules.specs.Elab.{State}
 use Rattle.elab_rules.specs.Wired.{whole_constant, type_of}
-use Rattle.elab_rules.specs.RowForms.{at, n, v, bin, pre, choice, comma, at_index, spec, exprs, world, start, entry, field, structs}
+use Rattle.elab_rules.specs.RowForms.{at, n, v, bin, pre, choice, comma, at_index, spec, exprs, world, values, start, entry, field, structs}
 
 -- ---- constants
 
@@ -38,7 +38,7 @@ abbrev pub is_none : s.Expr → Refusal → Number
 is_none e r = record { expr = e; gives = refuse r }
 
 abbrev pub AreNumbers : List Number → Type 0
-AreNumbers rows = map (λ (r : Number). constant_of (whole_constant world r.expr start)) rows ≡ map (λ (r : Number). r.gives) rows
+AreNumbers rows = map (λ (r : Number). constant_of (whole_constant world values r.expr start)) rows ≡ map (λ (r : Number). r.gives) rows
 
 -- ---- types: the type, and the structs and names that it declares
 
@@ -65,7 +65,7 @@ abbrev pub no_type : s.TypeSpec → Refusal → TypeRow
 no_type t r = record { spec = t; gives = refuse r }
 
 abbrev pub AreTypes : List TypeRow → Type 0
-AreTypes rows = map (λ (r : TypeRow). declared_by (type_of world (at 1) r.spec start)) rows ≡ map (λ (r : TypeRow). r.gives) rows
+AreTypes rows = map (λ (r : TypeRow). declared_by (type_of world values (at 1) r.spec start)) rows ≡ map (λ (r : TypeRow). r.gives) rows
 
 -- ---- short forms
 

@@ -130,10 +130,12 @@ pub record ValueRows : Type 0 where
       ∷ gives (s.port_write (n (codes "0x0120") 12) (v (codes "a") 20) (at 1)) (core.port_out 288 (convert U16 (rd 1 20))) void
       ∷ gives (s.post (codes "tick") (at 1)) (core.post 2) (int U8)
       ∷ [])
-  -- call I.go(a); call P.go[i](a); signal I.done(); signal I.done(), call P.go[a](i), signal I.done()
+  -- call I.go(a); call T.start(a); call P.go[i](a); signal I.done(); signal I.done(), call P.go[a](i), signal I.done()
   pub items : AreWired (
       gives (s.call_item false (codes "I") (codes "go") s.no_expr (s.more_exprs (v (codes "a") 11) s.no_exprs) (at 1))
         (core.call 9 (core_exprs (convert I16 (rd 1 11) ∷ [])) (at 1)) (int U8)
+      ∷ gives (s.call_item false (codes "T") (codes "start") s.no_expr (s.more_exprs (v (codes "a") 14) s.no_exprs) (at 1))
+        (core.call 12 (core_exprs (num U8 2 ∷ convert I16 (rd 1 14) ∷ [])) (at 1)) void
       ∷ gives (s.call_item false (codes "P") (codes "go") (s.some_expr (v (codes "i") 11)) (s.more_exprs (v (codes "a") 14) s.no_exprs) (at 1))
         (core.call 20 (core_exprs (convert U8 (rd 3 11) ∷ convert I16 (rd 1 14) ∷ [])) (at 1)) (int U8)
       ∷ gives (s.call_item true (codes "I") (codes "done") s.no_expr s.no_exprs (at 1)) (core.call 20 core.no_exprs (at 1)) void

@@ -14,14 +14,21 @@ use Rattle.elab_rules.specs.declared.scope.UniqueCount as unique_count
 use Rattle.elab_rules.specs.declared.scope.Item as item
 use Rattle.elab_rules.specs.declared.scope.Env as env
 use Rattle.elab_rules.specs.declared.work.Asked as asked
+use Rattle.elab_rules.specs.declared.work.Aside as set_aside
 use Rattle.elab_rules.specs.declared.work.Work.{Work}
 use Rattle.elab_rules.specs.declared.found.Typed as typed
 use Rattle.elab_rules.specs.declared.found.Found as found
 use Rattle.elab_rules.specs.declared.found.Found.TheVariants as F
 use Rattle.elab_rules.specs.declared.found.Target as target
+use Rattle.elab_rules.specs.declared.pointers.Sides as sides
+use Rattle.elab_rules.specs.declared.places.FieldFound as field_found
+use Rattle.elab_rules.specs.declared.names.Signature as signature
+use Rattle.elab_rules.specs.declared.types.Based as based
+use Rattle.elab_rules.specs.Operators.{Based, Sides, FieldFound, Signature}
+use Rattle.nesc_core.specs.declared.tree.CoreType as core_type
 use Rattle.elab_rules.specs.Scope as p
 use Rattle.elab_rules.specs.Scope.{Meaning, Entry, Kind, Tag, Struct, Unique, UniqueCount, Item, Env}
-use Rattle.elab_rules.specs.Elab.{Asked, State}
+use Rattle.elab_rules.specs.Elab.{Aside, Asked, State}
 use Rattle.elab_rules.specs.Convert.{Typed, Found, a_place, a_value, a_copy, Target}
 
 abbrev pub meaning_of : meaning.Meaning → Meaning
@@ -96,3 +103,21 @@ found_of (F.Copy steps place k) = a_copy (map expr_of steps.items) (place_of pla
 
 abbrev pub target_of : target.Target → Target
 target_of t = record { place = place_of t.place; indexes = t.indexes.items; ty = type_of t.ty }
+
+abbrev pub sides_of : sides.Sides → Sides
+sides_of c = record { at_type = c.at_type; first = expr_of c.first; second = expr_of c.second }
+
+abbrev pub field_found_of : field_found.FieldFound → FieldFound
+field_found_of f = record { number = f.number; ty = type_of f.ty; is_const = f.is_const }
+
+abbrev pub number_and_type : ℕ × core_type.CoreType → ℕ × Ty
+number_and_type f = (f.0, type_of f.1)
+
+abbrev pub signature_of : signature.Signature → Signature
+signature_of s = record { body = s.body; params = map type_of s.params.items; result = type_of s.result }
+
+abbrev pub based_of : based.Based → Based
+based_of b = record { ty = type_of b.ty; is_const = b.is_const }
+
+abbrev pub aside_of : set_aside.Aside → Aside
+aside_of a = record { locals = map type_of a.locals.items; taken = a.taken.items; asked = map asked_of a.asked.items }

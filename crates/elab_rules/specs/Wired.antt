@@ -1,6 +1,6 @@
 -- The wired program of expressions, constants and types (C99, 6.5 to 6.7; the nesC 1.3 Language Reference): one equation for each form,
 -- in the order in which its parts are looked at.
-use Rattle.std.specs.Prelude.{ℕ, ◌+◌, ℤ, pos, ◌+ℤ◌, Bool, true, false, ◌&&◌, ◌||◌, nat_eq, List, [], ◌∷◌, length, Option, Some, None, Ok}
+use Rattle.std.specs.Prelude.{ℕ, ◌+◌, ℤ, pos, ◌+ℤ◌, Bool, true, false, ◌&&◌, ◌||◌, nat_eq, List, [], ◌∷◌, length, slice_index_or, Option, Some, None, Ok}
 use Rattle.nm_base.specs.declared.pos.Pos.{Pos}
 use Rattle.nm_base.specs.declared.int_type.IntType.{IntType}
 use Rattle.nm_base.specs.declared.int_type.IntType.TheVariants.{I16}
@@ -19,7 +19,7 @@ use Rattle.nesc_types.specs.Values.{Constant}
 use Rattle.elab_rules.specs.Scope.{Env, Struct, Item, Kind, constant, a_struct, an_enum, lookup, lookup_tag, unique_at, count_of, item_from}
 use Rattle.elab_rules.specs.Elab.{Elab, by, ◌>>=◌, ◌>>◌, give, state, add_name, add_tag, add_struct, unevaluated}
 use Rattle.elab_rules.specs.Convert.{Typed, Found, value_found, null_type, int_of, converted, assignable, type_found}
-use Rattle.elab_rules.specs.Operators.{const_of, literal, counted, sized, named, constant_named, port, chosen, comma, member, member_behind, stepped, cast_to, Signature, callee, count, same_count, called, item_named, written, read_from, posted, Based, based, type_named, struct_tagged, enum_tagged, pointers, array_length, arrays, no_fields, with_field_named, ended, new_name, new_tag, enum_constant}
+use Rattle.elab_rules.specs.Operators.{const_of, literal, counted, sized, named, constant_named, port, chosen, comma, member, member_behind, stepped, cast_to, Signature, callee, count, same_count, called, item_named, written, read_from, posted, Based, plain_base, type_named, struct_tagged, enum_tagged, pointers, array_length, arrays, no_fields, with_field_named, ended, new_name, new_tag, enum_constant}
 use Rattle.elab_rules.specs.Places.{as_value, indexed, element, binary, prefixed, stored, body_reached}
 use Rattle.elab_rules.specs.Ends.{ends_in_groups}
 
@@ -97,7 +97,14 @@ join_exprs (core.more_exprs e es) rest = core.more_exprs e (join_exprs es rest)
 abbrev pub reached : ℕ → Item → Signature
 reached body i = record { body = body; params = i.params; result = i.result }
 
-module _ (env : Env) where
+-- the value that the parameter of the one target gets, where it has a parameter
+abbrev pub value_given : (body : Option ℕ) → Option Constant → Exprs
+value_given None x = core.no_exprs
+value_given (Some body) None = core.no_exprs
+value_given (Some body) (Some x) = core.more_exprs (core.const x.0 x.1) core.no_exprs
+
+-- for each item, `values` has the value that the parameter of its one target gets
+module _ (env : Env) (values : List (Option Constant)) where
   abbrev mutual
     pub found : s.Expr → Elab Found
     found (s.name n at) = do
@@ -166,7 +173,7 @@ module _ (env : Env) where
       ps ← parameter at i.1.parameter param
       es ← all_arguments i.1.params arguments
       body ← body_reached env at i.0 i.1.body
-      give (called at (reached body i.1) (join_exprs ps es))
+      give (called at (reached body i.1) (join_exprs (value_given i.1.body (slice_index_or values i.0 None)) (join_exprs ps es)))
     found (s.port_read p at) = do
       k ← constant_in (pos_of p) p true
       n ← by (port (pos_of p) k.1)
@@ -255,13 +262,13 @@ module _ (env : Env) where
     lengths s.no_exprs = give []
     lengths (s.more_exprs e es) = do
       c ← constant_in (pos_of e) e true
-      n ← by (array_length (pos_of e) c)
+      n ← by (array_length (pos_of e) c.1)
       ns ← lengths es
       give (n ∷ ns)
 
     pub base_of : Pos → s.Base → Elab Based
-    base_of at s.void = give (based void)
-    base_of at (s.int t) = give (based (int t))
+    base_of at s.void = give (plain_base void)
+    base_of at (s.int t) = give (plain_base (int t))
     base_of at (s.named n) = do
       x ← state
       by (type_named at (lookup x.names n))
@@ -277,7 +284,7 @@ module _ (env : Env) where
       y ← state
       done ← by (ended y.structs at (length x.structs) fs)
       add_struct done
-      give (based (struct (length y.structs)))
+      give (plain_base (struct (length y.structs)))
     base_of at (s.enum None) = by (refuse (BadType at))
     base_of at (s.enum (Some tag)) = do
       x ← state
@@ -285,7 +292,7 @@ module _ (env : Env) where
     base_of at (s.enum_of tag items) = do
       tagged at tag an_enum
       enum_items (pos 0) items
-      give (based (int I16))
+      give (plain_base (int I16))
 
     pub fields : Pos → Struct → s.Groups → Elab Struct
     fields at done s.no_groups = give done

@@ -3,13 +3,15 @@
 ghost use Rattle.std.specs.Prelude.{◌≡◌};
 ghost use Rattle.nesc_core.specs.View.{type_of, place_of};
 ghost use Rattle.elab_rules.specs.Answers.{Gives};
-ghost use Rattle.elab_rules.specs.Elab.{fresh, mark_taken, add_name, add_tag, add_struct};
+ghost use Rattle.elab_rules.specs.Elab.{add_name, add_struct, add_tag, alone, aside, fresh, mark_taken, with_aside};
 ghost use Rattle.elab_rules.specs.Places as spec;
-ghost use Rattle.elab_rules.specs.View.{state_of, meaning_of, struct_of, kind_of};
+ghost use Rattle.elab_rules.specs.View.{aside_of, state_of, meaning_of, struct_of, kind_of};
 
 use crate::scope::{Entry, Kind, Meaning, Struct, Tag};
 use nesc_core::{CoreType, Place};
 use nm_base::{Fault, Name, Pos, Refusal};
+use std::alloc::Global;
+use std::mem::replace;
 
 /// A dispatch body that some call needs, and its first call.
 #[derive(Clone, Copy)]
@@ -34,7 +36,36 @@ pub struct Work {
     pub asked: Vec<Asked>,
 }
 
+/// What is set aside while an expression is looked at that is not evaluated.
+#[derive(Drop)]
+pub struct Aside {
+    pub locals: Vec<CoreType>,
+    pub taken: Vec<u32>,
+    pub asked: Vec<Asked>,
+}
+
 impl Work {
+    /// Sets aside what work on an expression that is not evaluated must not change.
+    pub fn set_aside(&mut self, alloc: Global) -> Aside
+        ensures kept { aside_of result ≡ aside (state_of self.old) }
+        ensures alone { state_of self.new ≡ alone (state_of self.old) }
+    {
+        Aside {
+            locals: replace(&mut self.locals, Vec::new(alloc)),
+            taken: replace(&mut self.taken, Vec::new(alloc)),
+            asked: replace(&mut self.asked, Vec::new(alloc)),
+        }
+    }
+
+    /// Puts back what was set aside.
+    pub fn restore(&mut self, kept: Aside)
+        ensures { state_of self.new ≡ with_aside (aside_of kept) (state_of self.old) }
+    {
+        self.locals = kept.locals;
+        self.taken = kept.taken;
+        self.asked = kept.asked;
+    }
+
     /// A new local of this type.
     pub fn fresh(&mut self, t: CoreType) -> Result<u32, Fault>
         ensures { Gives (λ x. x) result (state_of self.new) (fresh (type_of t) (state_of self.old)) }

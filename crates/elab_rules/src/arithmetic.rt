@@ -1,0 +1,101 @@
+//! Operators before a number or a pointer.
+
+ghost use Rattle.std.specs.Prelude.{◌≡◌, IfOk};
+ghost use Rattle.nesc_core.specs.Plain as core;
+ghost use Rattle.nesc_core.specs.View.{type_of, expr_of};
+ghost use Rattle.elab_rules.specs.Answers.{Follows};
+ghost use Rattle.elab_rules.specs.Operators as spec;
+ghost use Rattle.elab_rules.specs.View.{found_of, typed_of};
+
+use crate::found::{Found, Typed, bad_type, integer, to_int, value_found};
+use nesc_core::{BinOp, CoreExpr, CoreType, UnOp};
+use nesc_types::promoted;
+use nm_base::{Fault, IntType, NoMemory, Pos};
+use std::alloc::Global;
+
+pub(crate) fn bin(
+    alloc: Global,
+    o: BinOp,
+    t: IntType,
+    a: CoreExpr,
+    b: CoreExpr,
+) -> Result<CoreExpr, NoMemory>
+    ensures { IfOk result (λ r. expr_of r ≡ core.bin o t (expr_of a) (expr_of b)) }
+{
+    Ok(CoreExpr::Bin(o, t, Box::new(alloc, a)?, Box::new(alloc, b)?))
+}
+
+fn un(alloc: Global, o: UnOp, t: IntType, e: CoreExpr) -> Result<CoreExpr, NoMemory>
+    ensures { IfOk result (λ r. expr_of r ≡ core.un o t (expr_of e)) }
+{
+    Ok(CoreExpr::Un(o, t, Box::new(alloc, e)?))
+}
+
+pub(crate) fn promoted_value(alloc: Global, t: IntType, e: CoreExpr) -> Result<CoreExpr, NoMemory>
+    ensures { IfOk result (λ r. expr_of r ≡ spec.promoted_value t (expr_of e)) }
+{
+    to_int(alloc, promoted(t), t, e)
+}
+
+/// `+` before a number.
+pub fn plus(alloc: Global, at: Pos, v: Typed) -> Result<Found, Fault>
+    ensures { Follows found_of result (spec.plus at (typed_of v)) }
+{
+    let t = integer(at, &v.ty)?;
+    let e = promoted_value(alloc, t, v.expr)?;
+    Ok(value_found(e, CoreType::Int(promoted(t))))
+}
+
+pub(crate) fn negated(alloc: Global, t: IntType, e: CoreExpr) -> Result<CoreExpr, NoMemory>
+    ensures { IfOk result (λ r. expr_of r ≡ spec.negated t (expr_of e)) }
+{
+    let operand = promoted_value(alloc, t, e)?;
+    un(alloc, UnOp::Neg, promoted(t), operand)
+}
+
+/// `-` before a number.
+pub fn minus(alloc: Global, at: Pos, v: Typed) -> Result<Found, Fault>
+    ensures { Follows found_of result (spec.minus at (typed_of v)) }
+{
+    let t = integer(at, &v.ty)?;
+    let e = negated(alloc, t, v.expr)?;
+    Ok(value_found(e, CoreType::Int(promoted(t))))
+}
+
+/// `~`.
+pub fn complement(alloc: Global, at: Pos, v: Typed) -> Result<Found, Fault>
+    ensures { Follows found_of result (spec.complement at (typed_of v)) }
+{
+    let t = integer(at, &v.ty)?;
+    let operand = promoted_value(alloc, t, v.expr)?;
+    let e = un(alloc, UnOp::Not, promoted(t), operand)?;
+    Ok(value_found(e, CoreType::Int(promoted(t))))
+}
+
+// A pointer as its address.
+pub(crate) fn address(alloc: Global, e: CoreExpr) -> Result<CoreExpr, NoMemory>
+    ensures { IfOk result (λ r. expr_of r ≡ spec.address (expr_of e)) }
+{
+    Ok(CoreExpr::Convert(IntType::U16, Box::new(alloc, e)?))
+}
+
+fn is_zero_at(alloc: Global, at: Pos, e: CoreExpr, t: &CoreType) -> Result<CoreExpr, Fault>
+    ensures { Follows expr_of result (spec.is_zero_at at (expr_of e) (type_of t.now)) }
+{
+    match t {
+        CoreType::Int(int) => Ok(un(alloc, UnOp::IsZero, *int, e)?),
+        CoreType::Pointer(_) => {
+            let number = address(alloc, e)?;
+            Ok(un(alloc, UnOp::IsZero, IntType::U16, number)?)
+        }
+        CoreType::Void | CoreType::Array(_, _) | CoreType::Struct(_) => bad_type(at),
+    }
+}
+
+/// `!`, of a number or a pointer.
+pub fn is_zero(alloc: Global, at: Pos, v: Typed) -> Result<Found, Fault>
+    ensures { Follows found_of result (spec.is_zero at (typed_of v)) }
+{
+    let e = is_zero_at(alloc, at, v.expr, &v.ty)?;
+    Ok(value_found(e, CoreType::Int(IntType::I16)))
+}
