@@ -32,7 +32,7 @@ lookup_tag-more name xs i d h =
 -- the first of those that are left declares the name, or the others do
 pub declares-here : (name : List ℕ) (xs : List rust.Entry) (i : ℕ) (d : rust.Entry) → i < length xs
     → declares (map entry_of (drop i xs)) name
-      ≡ (if bytes_eq (entry_of (get_or xs i d)).name name then true else declares (map entry_of (drop (i + 1) xs)) name)
+    ≡ (if bytes_eq (entry_of (get_or xs i d)).name name then true else declares (map entry_of (drop (i + 1) xs)) name)
 declares-here name [] i d h = absurd (omega arith)
 declares-here name (x ∷ xs) zero d h = refl
 declares-here name (x ∷ xs) (suc i) d h =
@@ -42,7 +42,7 @@ declares-here name (x ∷ xs) (suc i) d h =
 
 pub declares_tag-here : (name : List ℕ) (xs : List rust_tag.Tag) (i : ℕ) (d : rust_tag.Tag) → i < length xs
     → declares_tag (map tag_of (drop i xs)) name
-      ≡ (if bytes_eq (tag_of (get_or xs i d)).name name then true else declares_tag (map tag_of (drop (i + 1) xs)) name)
+    ≡ (if bytes_eq (tag_of (get_or xs i d)).name name then true else declares_tag (map tag_of (drop (i + 1) xs)) name)
 declares_tag-here name [] i d h = absurd (omega arith)
 declares_tag-here name (x ∷ xs) zero d h = refl
 declares_tag-here name (x ∷ xs) (suc i) d h =
@@ -53,7 +53,7 @@ declares_tag-here name (x ∷ xs) (suc i) d h =
 -- the first field that is left has the name, or the others do
 pub field-here : (n : ℕ) (name : List ℕ) (xs : List rust_field.Field) (i : ℕ) (d : rust_field.Field) → i < length xs
     → field_from n (map field_of (drop i xs)) name
-      ≡ (if bytes_eq (field_of (get_or xs i d)).name name then Some (n, (field_of (get_or xs i d)).ty) else field_from (n + 1) (map field_of (drop (i + 1) xs)) name)
+    ≡ (if bytes_eq (field_of (get_or xs i d)).name name then Some (n, (field_of (get_or xs i d)).ty) else field_from (n + 1) (map field_of (drop (i + 1) xs)) name)
 field-here n name [] i d h = absurd (omega arith)
 field-here n name (x ∷ xs) zero d h =
     let e : suc n ≡ n + 1 = omega arith in
@@ -65,7 +65,7 @@ field-here n name (x ∷ xs) (suc i) d h =
 
 pub has_field-here : (name : List ℕ) (xs : List rust_field.Field) (i : ℕ) (d : rust_field.Field) → i < length xs
     → has_field (map field_of (drop i xs)) name
-      ≡ (if bytes_eq (field_of (get_or xs i d)).name name then true else has_field (map field_of (drop (i + 1) xs)) name)
+    ≡ (if bytes_eq (field_of (get_or xs i d)).name name then true else has_field (map field_of (drop (i + 1) xs)) name)
 has_field-here name [] i d h = absurd (omega arith)
 has_field-here name (x ∷ xs) zero d h = refl
 has_field-here name (x ∷ xs) (suc i) d h =

@@ -575,7 +575,7 @@ with_new_field structs at s name t is_const = do
 -- one more field, whose name is new
 abbrev pub with_field_named : List Struct → Pos → Struct → List ℕ → Ty → (is_const : Bool) → Rule Struct
 with_field_named structs at s name t is_const =
-  if has_field s.fields name then refuse (DuplicateName at) else with_new_field structs at s name t is_const
+    if has_field s.fields name then refuse (DuplicateName at) else with_new_field structs at s name t is_const
 
 -- what pointers in the type point to has bytes, but for structs whose definition has not ended
 abbrev pub points_well : List Struct → Pos → Ty → Rule (Unit {0})

@@ -238,7 +238,7 @@ ways_of_fields of_struct k (f ∷ fs) = through (to_field k) (ways_in of_struct 
 abbrev pub ways_of_struct : List Struct → (depth : ℕ) → ℕ → List (List Step)
 ways_of_struct structs zero k = []
 ways_of_struct structs (suc depth) k =
-  elim (slice_get structs k) [ None ↦ [] | Some s ↦ ways_of_fields (ways_of_struct structs depth) 0 s.fields ]
+    elim (slice_get structs k) [ None ↦ [] | Some s ↦ ways_of_fields (ways_of_struct structs depth) 0 s.fields ]
 
 abbrev pub ways : List Struct → ℕ → List (List Step)
 ways structs k = ways_of_struct structs (length structs) k
@@ -268,9 +268,9 @@ is_number k (Some j) = nat_eq k j
 
 abbrev pub copied : (at at_value : Pos) → Target → (struct : ℕ) → Found → Elab Found
 copied at at_value p k (a_place q types t is_const) =
-  if is_number k (struct_number t) then place_copied at at_value p k q types else by (refuse (BadType at_value))
+    if is_number k (struct_number t) then place_copied at at_value p k q types else by (refuse (BadType at_value))
 copied at at_value p k (a_copy steps q j) =
-  if nat_eq k j then copy_copied at at_value p k steps q else by (refuse (BadType at_value))
+    if nat_eq k j then copy_copied at at_value p k steps q else by (refuse (BadType at_value))
 copied at at_value p k (a_value v) = by (refuse (BadType at_value))
 
 abbrev pub stored_by : (at at_value : Pos) → Target → Found → (struct : Option ℕ) → Elab Found

@@ -154,18 +154,18 @@ pub record TypeRows : Type 0 where
   -- struct { fixed_t y; char z[sizeof(struct { int a; })]; }
   pub structs_made : AreTypes (
       declares (struct_of (one (s.int I8) 0 (codes "y") [] (one (s.int I32) 0 (codes "z") [] s.no_groups))) (struct 2)
-        (made (field (codes "y") (int I8) ∷ field (codes "z") (int I32) ∷ []) (false ∷ false ∷ []) (layout 6 2) ∷ []) []
+      (made (field (codes "y") (int I8) ∷ field (codes "z") (int I32) ∷ []) (false ∷ false ∷ []) (layout 6 2) ∷ []) []
       ∷ declares (struct_of s.no_groups) (struct 2) (made [] [] (layout 0 1) ∷ []) []
       ∷ declares (spec (s.struct_of (Some (codes "G")) (one (tagged (codes "G")) 1 (codes "next") [] s.no_groups)) 0) (struct 2)
-        (made (field (codes "next") (pointer (struct 2)) ∷ []) (false ∷ []) (layout 2 2) ∷ []) []
+      (made (field (codes "next") (pointer (struct 2)) ∷ []) (false ∷ []) (layout 2 2) ∷ []) []
       ∷ declares (spec (s.struct_of (Some (codes "H")) (one (s.struct_of None (one (tagged (codes "H")) 1 (codes "up") [] s.no_groups)) 0 (codes "d") []
-          (int_field (codes "y") s.no_groups))) 0) (struct 3)
-        (made (field (codes "up") (pointer (struct 3)) ∷ []) (false ∷ []) (layout 2 2)
-          ∷ made (field (codes "d") (struct 2) ∷ field (codes "y") (int I16) ∷ []) (false ∷ false ∷ []) (layout 4 2) ∷ []) []
+      (int_field (codes "y") s.no_groups))) 0) (struct 3)
+      (made (field (codes "up") (pointer (struct 3)) ∷ []) (false ∷ []) (layout 2 2)
+      ∷ made (field (codes "d") (struct 2) ∷ field (codes "y") (int I16) ∷ []) (false ∷ false ∷ []) (layout 4 2) ∷ []) []
       ∷ declares (struct_of (one (s.named (codes "fixed_t")) 0 (codes "y") []
-          (one (s.int I8) 0 (codes "z") (s.size_of_type (struct_of (int_field (codes "a") s.no_groups)) (at 27) ∷ []) s.no_groups))) (struct 3)
-        (made (field (codes "a") (int I16) ∷ []) (false ∷ []) (layout 2 2)
-          ∷ made (field (codes "y") (int I16) ∷ field (codes "z") (array (int I8) 2) ∷ []) (true ∷ false ∷ []) (layout 4 2) ∷ []) []
+      (one (s.int I8) 0 (codes "z") (s.size_of_type (struct_of (int_field (codes "a") s.no_groups)) (at 27) ∷ []) s.no_groups))) (struct 3)
+      (made (field (codes "a") (int I16) ∷ []) (false ∷ []) (layout 2 2)
+      ∷ made (field (codes "y") (int I16) ∷ field (codes "z") (array (int I8) 2) ∷ []) (true ∷ false ∷ []) (layout 4 2) ∷ []) []
       ∷ [])
   -- struct { int y; int y; }; struct F { .. } where F is declared in this scope; struct G { struct G g; }; struct S { .. } hides; struct G { struct G *p[0]; };
   -- struct { char y[32767]; char z; }; struct { void y; }; struct G { struct { struct G *p; } d[0]; }
@@ -174,21 +174,21 @@ pub record TypeRows : Type 0 where
       ∷ no_type (spec (s.struct_of (Some (codes "F")) (int_field (codes "y") s.no_groups)) 0) (DuplicateName (at 1))
       ∷ no_type (spec (s.struct_of (Some (codes "G")) (one (tagged (codes "G")) 0 (codes "g") [] s.no_groups)) 0) (UnknownName (at 1))
       ∷ declares (spec (s.struct_of (Some (codes "S")) (int_field (codes "y") s.no_groups)) 0) (struct 2)
-        (made (field (codes "y") (int I16) ∷ []) (false ∷ []) (layout 2 2) ∷ []) []
+      (made (field (codes "y") (int I16) ∷ []) (false ∷ []) (layout 2 2) ∷ []) []
       ∷ no_type (spec (s.struct_of (Some (codes "G")) (one (tagged (codes "G")) 1 (codes "p") (n (codes "0") 24 ∷ []) s.no_groups)) 0) (BadType (at 1))
       ∷ no_type (struct_of (one (s.int I8) 0 (codes "y") (n (codes "32767") 17 ∷ []) (one (s.int I8) 0 (codes "z") [] s.no_groups))) (BadType (at 1))
       ∷ no_type (struct_of (one s.void 0 (codes "y") [] s.no_groups)) (BadType (at 1))
       ∷ no_type (spec (s.struct_of (Some (codes "G"))
-          (one (s.struct_of None (one (tagged (codes "G")) 1 (codes "p") [] s.no_groups)) 0 (codes "d") (n (codes "0") 36 ∷ []) s.no_groups)) 0) (BadType (at 1))
+      (one (s.struct_of None (one (tagged (codes "G")) 1 (codes "p") [] s.no_groups)) 0 (codes "d") (n (codes "0") 36 ∷ []) s.no_groups)) 0) (BadType (at 1))
       ∷ [])
   -- enum { A, B = 40000, C, D = -32769 }; enum { A, B = A + 1 }; enum E { }: E is of an outer scope
   pub enums : AreTypes (
       declares (enum_of (item (codes "A") 8 (item_at (codes "B") (n (codes "40000") 15) 11 (item (codes "C") 22
-          (item_at (codes "D") (pre pre_op.Neg (n (codes "32769") 30) 29) 25 s.no_items))))) (int I16) []
-        (entry (codes "A") (constant I16 (pos 0)) ∷ entry (codes "B") (constant U16 (pos 40000)) ∷ entry (codes "C") (constant U16 (pos 40001))
-          ∷ entry (codes "D") (constant I32 (pos 0 -ℤ pos 32769)) ∷ [])
+      (item_at (codes "D") (pre pre_op.Neg (n (codes "32769") 30) 29) 25 s.no_items))))) (int I16) []
+      (entry (codes "A") (constant I16 (pos 0)) ∷ entry (codes "B") (constant U16 (pos 40000)) ∷ entry (codes "C") (constant U16 (pos 40001))
+      ∷ entry (codes "D") (constant I32 (pos 0 -ℤ pos 32769)) ∷ [])
       ∷ declares (enum_of (item (codes "A") 8 (item_at (codes "B") (bin op.Add (v (codes "A") 15) (n (codes "1") 19)) 11 s.no_items))) (int I16) []
-        (entry (codes "A") (constant I16 (pos 0)) ∷ entry (codes "B") (constant I16 (pos 1)) ∷ [])
+      (entry (codes "A") (constant I16 (pos 0)) ∷ entry (codes "B") (constant I16 (pos 1)) ∷ [])
       ∷ is_type (spec (s.enum_of (Some (codes "E")) s.no_items) 0) (int I16)
       ∷ [])
   -- enum { A, A }; enum { w }, where w is declared in this scope; enum { A = z }; enum { A = 4294967295u, B }; enum F { A }; enum { A = a }

@@ -76,23 +76,23 @@ pub record ValueRows : Type 0 where
   -- c > u; i >= l; p > q; (c > u) >= i
   pub exchanged : AreWired (
       making (bin op.Gt (v (codes "c") 1) (v (codes "u") 5))
-        (core.comma (core.assign (core.local 11) (convert U16 (rd 0 1)) (at 1)) (core.bin bin_op.Lt U16 (rd 4 5) (rd 11 1))) (int I16) (int U16 ∷ [])
+      (core.comma (core.assign (core.local 11) (convert U16 (rd 0 1)) (at 1)) (core.bin bin_op.Lt U16 (rd 4 5) (rd 11 1))) (int I16) (int U16 ∷ [])
       ∷ making (bin op.Ge (v (codes "i") 1) (v (codes "l") 6))
-        (core.comma (core.assign (core.local 11) (convert I32 (rd 3 1)) (at 1)) (core.bin bin_op.Le I32 (rd 5 6) (rd 11 1))) (int I16) (int I32 ∷ [])
+      (core.comma (core.assign (core.local 11) (convert I32 (rd 3 1)) (at 1)) (core.bin bin_op.Le I32 (rd 5 6) (rd 11 1))) (int I16) (int I32 ∷ [])
       ∷ making (bin op.Gt (v (codes "p") 1) (v (codes "q") 5))
-        (core.comma (core.assign (core.local 11) (convert U16 (rd 7 1)) (at 1)) (core.bin bin_op.Lt U16 (convert U16 (rd 8 5)) (rd 11 1))) (int I16)
-        (int U16 ∷ [])
+      (core.comma (core.assign (core.local 11) (convert U16 (rd 7 1)) (at 1)) (core.bin bin_op.Lt U16 (convert U16 (rd 8 5)) (rd 11 1))) (int I16)
+      (int U16 ∷ [])
       ∷ making (s.binary op.Ge (bin op.Gt (v (codes "c") 2) (v (codes "u") 6)) (v (codes "i") 12) (at 1))
-        (core.comma
-          (core.assign (core.local 12)
-            (core.comma (core.assign (core.local 11) (convert U16 (rd 0 2)) (at 2)) (core.bin bin_op.Lt U16 (rd 4 6) (rd 11 2))) (at 1))
-          (core.bin bin_op.Le I16 (rd 3 12) (rd 12 1))) (int I16) (int U16 ∷ int I16 ∷ [])
+      (core.comma
+      (core.assign (core.local 12)
+      (core.comma (core.assign (core.local 11) (convert U16 (rd 0 2)) (at 2)) (core.bin bin_op.Lt U16 (rd 4 6) (rd 11 2))) (at 1))
+      (core.bin bin_op.Le I16 (rd 3 12) (rd 12 1))) (int I16) (int U16 ∷ int I16 ∷ [])
       ∷ [])
   -- p + a; a + p; p - a; p - u; p - q; p - NULL; r + i; r - r
   pub pointers : AreWired (
       gives (bin op.Add (v (codes "p") 1) (v (codes "a") 5)) (core.offset (rd 7 1) (rd 1 5) 2) (pointer (int I16))
       ∷ making (bin op.Add (v (codes "a") 1) (v (codes "p") 5))
-        (core.comma (core.assign (core.local 11) (rd 1 1) (at 1)) (core.offset (rd 7 5) (rd 11 1) 2)) (pointer (int I16)) (int U8 ∷ [])
+      (core.comma (core.assign (core.local 11) (rd 1 1) (at 1)) (core.offset (rd 7 5) (rd 11 1) 2)) (pointer (int I16)) (int U8 ∷ [])
       ∷ gives (bin op.Sub (v (codes "p") 1) (v (codes "a") 5)) (core.offset (rd 7 1) (core.un un_op.Neg I16 (convert I16 (rd 1 5))) 2) (pointer (int I16))
       ∷ gives (bin op.Sub (v (codes "p") 1) (v (codes "u") 5)) (core.offset (rd 7 1) (core.un un_op.Neg U16 (rd 4 5)) 2) (pointer (int I16))
       ∷ gives (bin op.Sub (v (codes "p") 1) (v (codes "q") 5)) (core.distance (rd 7 1) (rd 8 5) 2) (int I16)
@@ -108,7 +108,7 @@ pub record ValueRows : Type 0 where
       ∷ gives (choice (v (codes "a") 1) (v (codes "p") 5) (s.null (at 9))) (core.choice (rd 1 1) (rd 7 5) core.null) (pointer (int I16))
       ∷ gives (choice (v (codes "a") 1) (s.null (at 5)) (v (codes "p") 12)) (core.choice (rd 1 1) core.null (rd 7 12)) (pointer (int I16))
       ∷ gives (choice (v (codes "p") 1) (fn (v (codes "nop") 5) []) (fn (v (codes "nop") 13) []))
-        (core.choice (rd 7 1) (core.call 4 core.no_exprs (at 5)) (core.call 4 core.no_exprs (at 13))) void
+      (core.choice (rd 7 1) (core.call 4 core.no_exprs (at 5)) (core.call 4 core.no_exprs (at 13))) void
       ∷ gives (choice (v (codes "a") 1) (v (codes "c") 5) (v (codes "c") 9)) (core.choice (rd 1 1) (convert I16 (rd 0 5)) (convert I16 (rd 0 9))) (int I16)
       ∷ gives (comma (v (codes "i") 1) (v (codes "l") 4)) (core.comma (rd 3 1) (rd 5 4)) (int I32)
       ∷ gives (comma (fn (v (codes "nop") 1) []) (v (codes "a") 8)) (core.comma (core.call 4 core.no_exprs (at 1)) (rd 1 8)) (int U8)
@@ -116,7 +116,7 @@ pub record ValueRows : Type 0 where
   -- (uint8_t)(a + b); (int)i; (int *)p; (int *)NULL; (enum E)l; (uint8_t)a
   pub casts : AreWired (
       gives (s.cast (spec (s.named (codes "uint8_t")) 0) (bin op.Add (v (codes "a") 11) (v (codes "b") 15)) (at 1))
-        (convert U8 (core.bin bin_op.Add I16 (convert I16 (rd 1 11)) (convert I16 (rd 2 15)))) (int U8)
+      (convert U8 (core.bin bin_op.Add I16 (convert I16 (rd 1 11)) (convert I16 (rd 2 15)))) (int U8)
       ∷ gives (s.cast (spec (s.int I16) 0) (v (codes "i") 6) (at 1)) (rd 3 6) (int I16)
       ∷ gives (s.cast (spec (s.int I16) 1) (v (codes "p") 8) (at 1)) (rd 7 8) (pointer (int I16))
       ∷ gives (s.cast (spec (s.int I16) 1) (s.null (at 8)) (at 1)) core.null (pointer (int I16))
@@ -133,15 +133,15 @@ pub record ValueRows : Type 0 where
   -- call I.go(a); call T.start(a); call P.go[i](a); signal I.done(); signal I.done(), call P.go[a](i), signal I.done()
   pub items : AreWired (
       gives (s.call_item false (codes "I") (codes "go") s.no_expr (s.more_exprs (v (codes "a") 11) s.no_exprs) (at 1))
-        (core.call 9 (core_exprs (convert I16 (rd 1 11) ∷ [])) (at 1)) (int U8)
+      (core.call 9 (core_exprs (convert I16 (rd 1 11) ∷ [])) (at 1)) (int U8)
       ∷ gives (s.call_item false (codes "T") (codes "start") s.no_expr (s.more_exprs (v (codes "a") 14) s.no_exprs) (at 1))
-        (core.call 12 (core_exprs (num U8 2 ∷ convert I16 (rd 1 14) ∷ [])) (at 1)) void
+      (core.call 12 (core_exprs (num U8 2 ∷ convert I16 (rd 1 14) ∷ [])) (at 1)) void
       ∷ gives (s.call_item false (codes "P") (codes "go") (s.some_expr (v (codes "i") 11)) (s.more_exprs (v (codes "a") 14) s.no_exprs) (at 1))
-        (core.call 20 (core_exprs (convert U8 (rd 3 11) ∷ convert I16 (rd 1 14) ∷ [])) (at 1)) (int U8)
+      (core.call 20 (core_exprs (convert U8 (rd 3 11) ∷ convert I16 (rd 1 14) ∷ [])) (at 1)) (int U8)
       ∷ gives (s.call_item true (codes "I") (codes "done") s.no_expr s.no_exprs (at 1)) (core.call 20 core.no_exprs (at 1)) void
       ∷ gives (comma (comma (s.call_item true (codes "I") (codes "done") s.no_expr s.no_exprs (at 1))
-          (s.call_item false (codes "P") (codes "go") (s.some_expr (v (codes "a") 26)) (s.more_exprs (v (codes "i") 29) s.no_exprs) (at 16)))
-          (s.call_item true (codes "I") (codes "done") s.no_expr s.no_exprs (at 33)))
-        (core.comma (core.comma (core.call 20 core.no_exprs (at 1)) (core.call 21 (core_exprs (rd 1 26 ∷ rd 3 29 ∷ [])) (at 16)))
-          (core.call 20 core.no_exprs (at 33))) void
+      (s.call_item false (codes "P") (codes "go") (s.some_expr (v (codes "a") 26)) (s.more_exprs (v (codes "i") 29) s.no_exprs) (at 16)))
+      (s.call_item true (codes "I") (codes "done") s.no_expr s.no_exprs (at 33)))
+      (core.comma (core.comma (core.call 20 core.no_exprs (at 1)) (core.call 21 (core_exprs (rd 1 26 ∷ rd 3 29 ∷ [])) (at 16)))
+      (core.call 20 core.no_exprs (at 33))) void
       ∷ [])

@@ -20,13 +20,7 @@ use nm_base::{Fault, IntType, Pos};
 use std::alloc::Global;
 
 /// `=`, of a number or a pointer.
-pub fn assigned(
-    alloc: Global,
-    at: Pos,
-    at_value: Pos,
-    p: Target,
-    v: Typed,
-) -> Result<Found, Fault>
+pub fn assigned(alloc: Global, at: Pos, at_value: Pos, p: Target, v: Typed) -> Result<Found, Fault>
     ensures { Follows found_of result (spec.assigned at at_value (target_of p) (typed_of v)) }
 {
     let e = converted(alloc, at_value, &p.ty, v)?;
@@ -112,7 +106,16 @@ fn shift_updated(
     let a = integer(at, &p.ty)?;
     let b = integer(at, &v.ty)?;
     let e = promoted_value(alloc, b, v.expr)?;
-    update(alloc, at, gives_old, o, promoted(a), p.place, e, CoreType::Int(a))
+    update(
+        alloc,
+        at,
+        gives_old,
+        o,
+        promoted(a),
+        p.place,
+        e,
+        CoreType::Int(a),
+    )
 }
 
 // A pointer, as a number.

@@ -80,7 +80,13 @@ fn grown(structs: &[Struct], at: Pos, done: Layout, t: &CoreType) -> Result<Layo
     }
 }
 
-fn pushed(s: Struct, name: Name, ty: CoreType, is_const: bool, layout: Layout) -> Result<Struct, Fault>
+fn pushed(
+    s: Struct,
+    name: Name,
+    ty: CoreType,
+    is_const: bool,
+    layout: Layout,
+) -> Result<Struct, Fault>
     ensures { Follows struct_of result (spec.pushed (struct_of s) name (type_of ty) is_const layout) }
 {
     let mut fields = s.fields;

@@ -88,10 +88,8 @@ pub(crate) fn is_void(t: &CoreType) -> bool
 {
     match t {
         CoreType::Void => true,
-        CoreType::Int(_)
-        | CoreType::Pointer(_)
-        | CoreType::Array(_, _)
-        | CoreType::Struct(_) => false,
+        CoreType::Int(_) | CoreType::Pointer(_) | CoreType::Array(_, _) | CoreType::Struct(_) =>
+            false,
     }
 }
 
@@ -111,10 +109,7 @@ pub fn int_of(t: &CoreType) -> Option<IntType>
 {
     match t {
         CoreType::Int(int) => Some(*int),
-        CoreType::Void
-        | CoreType::Pointer(_)
-        | CoreType::Array(_, _)
-        | CoreType::Struct(_) => None,
+        CoreType::Void | CoreType::Pointer(_) | CoreType::Array(_, _) | CoreType::Struct(_) => None,
     }
 }
 
@@ -144,8 +139,9 @@ pub fn pointed(at: Pos, t: CoreType) -> Result<CoreType, Fault>
 {
     match t {
         CoreType::Pointer(part) => Ok(Box::into_inner(part)),
-        CoreType::Void | CoreType::Int(_) | CoreType::Array(_, _) | CoreType::Struct(_) =>
-            bad_type(at),
+        CoreType::Void | CoreType::Int(_) | CoreType::Array(_, _) | CoreType::Struct(_) => bad_type(
+            at,
+        ),
     }
 }
 
@@ -236,7 +232,8 @@ pub fn assignable(at: Pos, f: Found) -> Result<Target, Fault>
 {
     match f {
         Found::Place(place, indexes, ty, false) => Ok(Target { place, indexes, ty }),
-        Found::Place(_, _, _, true) | Found::Value(_) | Found::Copy(_, _, _) =>
-            Err(Fault::Refused(Refusal::NotAssignable(at))),
+        Found::Place(_, _, _, true) | Found::Value(_) | Found::Copy(_, _, _) => Err(Fault::Refused(
+            Refusal::NotAssignable(at),
+        )),
     }
 }

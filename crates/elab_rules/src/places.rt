@@ -216,8 +216,9 @@ pub fn member(
     ensures { Follows found_of result (spec.member (map struct_of structs.now) at (found_of f) name.now) }
 {
     match f {
-        Found::Place(p, indexes, t, is_const) =>
-            member_of(alloc, structs, at, p, indexes, &t, is_const, name),
+        Found::Place(p, indexes, t, is_const) => member_of(
+            alloc, structs, at, p, indexes, &t, is_const, name,
+        ),
         Found::Value(_) => bad_type(at),
         Found::Copy(_, _, _) => bad_type(at),
     }
@@ -236,5 +237,14 @@ pub fn member_behind(
     let part = pointed(at, v.ty)?;
     let ty = copied(alloc, &part)?;
     let place = Place::Deref(Box::new(alloc, v.expr)?, part);
-    member_of(alloc, structs, at, place, VecDeque::new(alloc), &ty, false, name)
+    member_of(
+        alloc,
+        structs,
+        at,
+        place,
+        VecDeque::new(alloc),
+        &ty,
+        false,
+        name,
+    )
 }

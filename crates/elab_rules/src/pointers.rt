@@ -70,4 +70,3 @@ pub fn compared_pointers(alloc: Global, x: CoreExpr, y: CoreExpr) -> Result<Side
         second,
     })
 }
-

@@ -32,8 +32,12 @@ impl Work {
         ensures { Gives found_of result (state_of self.new) (spec.indexed_by at (place_of p) indexes.items (type_of t) is_const (state_of self.old)) }
     {
         match t {
-            CoreType::Array(part, n) =>
-                Ok(Found::Place(p, indexes, CoreType::Array(part, n), is_const)),
+            CoreType::Array(part, n) => Ok(Found::Place(
+                p,
+                indexes,
+                CoreType::Array(part, n),
+                is_const,
+            )),
             CoreType::Int(_) | CoreType::Pointer(_) | CoreType::Void | CoreType::Struct(_) => {
                 let v = self.read_at(alloc, at, p, t)?;
                 Ok(Found::Value(v))
@@ -46,8 +50,9 @@ impl Work {
         ensures { Gives found_of result (state_of self.new) (spec.indexed at (found_of f) (state_of self.old)) }
     {
         match f {
-            Found::Place(p, indexes, t, is_const) =>
-                self.indexed_by(alloc, at, p, indexes, t, is_const),
+            Found::Place(p, indexes, t, is_const) => self.indexed_by(
+                alloc, at, p, indexes, t, is_const,
+            ),
             Found::Value(v) => Ok(Found::Value(v)),
             Found::Copy(_, _, _) => bad_type(at),
         }
