@@ -12,7 +12,7 @@ use Rattle.nesc_tree.specs.Laws.{answer, left_by, Reached}
 use Rattle.nesc_tree.proofs.Reach.{reach}
 use Rattle.nesc_parse_c.specs.declared.probes.Wanted.{Wanted}
 use Rattle.nesc_parse_c.specs.declared.probes.Wanted.TheVariants as wanted
-use Rattle.nesc_parse_c.specs.Gives.{place}
+use Rattle.nesc_parse_types.specs.Gives.{place}
 use Rattle.nesc_parse_c.specs.Parsed as parsed
 use Rattle.nesc_parse_c.specs.Parsed.{most, end_of, IsParsed, IsRefused, IsDeep}
 use Rattle.nesc_parse_c.specs.Probes.{phrase_of, read_of}
@@ -65,7 +65,7 @@ module _ (w : Wanted) (file : ℕ) (all : List Token) (at : ℕ) (names : Names)
     stands = e;
   }
 
-  cut_length : (before rest : List Token) → ts ≡ before ++ rest → at ≤ length all → at + length before + length rest ≡ length all
+  pub cut_length : (before rest : List Token) → ts ≡ before ++ rest → at ≤ length all → at + length before + length rest ≡ length all
   cut_length before rest e l =
       let n : length ts ≡ length (before ++ rest) = ap length e in
       let m = length-append before rest in

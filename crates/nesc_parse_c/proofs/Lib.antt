@@ -1,13 +1,4 @@
-pub mod Many
-pub mod Guards
-pub mod Kept
-pub mod Heights
-pub mod Stars
-pub mod Bases
-pub mod Turns
-pub mod Dispatch
-pub mod Climb
-pub mod Opened
 pub mod Told
 pub mod FromPlace
 pub mod Refusals
+pub mod Stands

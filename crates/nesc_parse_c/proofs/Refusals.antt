@@ -1,6 +1,7 @@
 -- What the public calls answer, from what reading answers.
 use Rattle.std.proofs.Common.{◌≡◌, ℕ, suc, ◌+◌, ◌-◌, ◌<◌, ◌≤◌, List, [], ◌∷◌, ◌++◌, length, take, drop, Option, Some, None, Result, Ok, Err, refl, sym, ap, subst, ◌∙◌, arith}
 use Rattle.std.proofs.lemmas.List.{take_rest}
+use Rattle.std.proofs.Math.ListN.{get_or}
 use Rattle.nm_base.specs.declared.pos.Pos.{Pos}
 use Rattle.nm_base.specs.declared.token.Token.{Token}
 use Rattle.nm_base.specs.declared.fault.Fault.TheVariants as f
@@ -12,14 +13,18 @@ use Rattle.nesc_tree.specs.Phrase.{Phrase, Of}
 use Rattle.nesc_tree.specs.Reading.{Fault, Syntax, Deep, Answer, phrase}
 use Rattle.nesc_tree.specs.Reach.{BeginsIn}
 use Rattle.nesc_tree.specs.Grammar as grammar
-use Rattle.nesc_parse_c.specs.declared.stop.Stop.{Stop}
+use Rattle.nesc_parse_types.specs.declared.stop.Stop.{Stop}
 use Rattle.nesc_parse_c.specs.declared.probes.Wanted.{Wanted}
-use Rattle.nesc_parse_c.specs.Gives.{Fails, form_in, place}
+use Rattle.nesc_parse_types.specs.Gives.{Fails, form_in, place}
 use Rattle.nesc_parse_c.specs.Parsed as parsed
 use Rattle.nesc_parse_c.specs.Left.{row}
 use Rattle.nesc_parse_c.specs.Parsed.{most, IsLeft, IsRefused}
 use Rattle.nesc_parse_c.specs.Probes.{phrase_of, read_of, TellsForm}
-use Rattle.nesc_parse_c.proofs.FromPlace.{reached, refused, cut_by, reached_by, between, inside}
+use Rattle.nesc_parse_c.proofs.FromPlace.{reached, refused, cut_by, cut_length, reached_by, between, inside}
+
+pub first_of : (rest : List Token) (t : Token) → 1 ≤ length rest → t ≡ get_or rest 0 t → rest ≡ t ∷ drop 1 rest
+first_of [] t some e = absurd (omega arith)
+first_of (u ∷ us) t some e = ap (λ (v : Token). v ∷ us) (sym e)
 
 -- a slice from the place to the end
 module _ (all : List Token) (at : ℕ) where
@@ -52,6 +57,9 @@ module _ (w : Wanted) (file : ℕ) (all : List Token) (at : ℕ) (names : Names)
 
     pub rest_fits : length rest ≤ length all
     rest_fits = inside w file all at names before rest (cut_by w file all at names (Err (Syntax rest)) q) l
+
+    pub starts_before : at ≤ length all - length rest
+    starts_before = let n = cut_length w file all at names before rest (cut_by w file all at names (Err (Syntax rest)) q) l in omega arith
 
     pub begins : BeginsIn (most (phrase_of w)) (phrase_of w) names front
     begins = subst (BeginsIn (most (phrase_of w)) (phrase_of w) names) (sym same_front) (reached_by w file all at names (Err (Syntax rest)) q).1

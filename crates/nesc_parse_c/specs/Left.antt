@@ -15,7 +15,7 @@ use Rattle.nesc_tree.specs.Phrase.{Phrase}
 use Rattle.nesc_tree.specs.Reach.{Begins}
 use Rattle.nesc_parse_c.specs.declared.left.Place.{Place}
 use Rattle.nesc_parse_c.specs.declared.left.Place.TheVariants as p
-use Rattle.nesc_parse_c.specs.Spelling.{row_of}
+use Rattle.nesc_operands.specs.Spelling.{row_of}
 
 -- the form, and where it is meant
 abbrev pub Row : Type 0

@@ -1,10 +1,3 @@
-pub mod Climbing
-pub mod Gives
-pub mod Guards
 pub mod Left
-pub mod Operands
 pub mod Parsed
-pub mod Parts
 pub mod Probes
-pub mod Spelling
-pub mod Turns

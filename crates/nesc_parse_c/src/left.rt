@@ -3,7 +3,8 @@
 ghost use Rattle.std.specs.Prelude.{◌≡◌, IfOk, false};
 ghost use Rattle.nesc_parse_c.specs.Left as spec;
 
-use crate::operators::row_of;
+use nesc_operands::operators::{is_spelled, row_of};
+use nesc_tree::{Sort, TypeNames, sort_of};
 use nm_base::{Kind, Left, Token};
 
 /// What has to be so of a refused token's place.
@@ -78,4 +79,26 @@ pub fn row(token: &Token) -> Row
         Kind::Number => None,
         Kind::Char => None,
     }
+}
+
+/// Whether a word of a type leaves a `long` among its words.
+fn long_with(found: bool, sort: Sort, token: &Token) -> bool
+    ensures { result ≡ spec.long_with found sort token.now }
+{
+    match sort {
+        Sort::Length => is_spelled(token, b"long"),
+        Sort::Qualifier | Sort::Signedness | Sort::Int => found,
+        _ => false,
+    }
+}
+
+/// Whether the tokens end with words of an integer type, `long` among them.
+pub fn ends_long(names: &TypeNames, before: &[Token]) -> bool
+    ensures { result ≡ spec.ends_long names.now false before.now }
+{
+    let mut found = false;
+    for token in before {
+        found = long_with(found, sort_of(names, token), token);
+    }
+    found
 }

@@ -1,13 +1,24 @@
-//! What is read, and whether reading came to an end.
+//! Reading once more with a token behind what was read, which tells whether it could stand there.
 
-ghost use Rattle.std.specs.Prelude.{◌≡◌, IfOk};
+ghost use Rattle.std.specs.Prelude.{◌≡◌, IfOk, [], ◌∷◌, ◌++◌};
+ghost use Rattle.nm_base.specs.declared.token.Token.{Token};
+ghost use Rattle.nesc_tree.specs.Reach.{Begins, BeginsIn};
 ghost use Rattle.nesc_tree.specs.Reading.{Answer};
 ghost use Rattle.nesc_tree.specs.Sorts.{Names};
-ghost use Rattle.nesc_parse_c.specs.Gives.{Gives};
-ghost use Rattle.nesc_parse_c.specs.Probes.{is_ended};
+ghost use Rattle.nesc_parse_types.specs.Gives.{Gives};
+ghost use Rattle.nesc_parse_c.specs.Left as left;
+ghost use Rattle.nesc_parse_c.specs.Parsed.{most};
+ghost use Rattle.nesc_parse_c.specs.Probes.{Tells, TellsForm, is_ended, phrase_of, read_of};
 
-use crate::stop::{Found, Stop};
-use nm_base::NoMemory;
+use crate::left::{Place, ends_long, row};
+use nesc_parse_exprs::{expr, type_form};
+use nesc_parse_types::{Found, Stop};
+use nesc_tree::{TypeNames, level};
+use nm_base::{Kind, Left, MAX_DEPTH, Name, NoMemory, Pos, Token};
+use std::alloc::Global;
+
+/// The greatest number of levels of an expression, and of what stands in a type.
+pub const LEVELS: usize = MAX_DEPTH as usize;
 
 /// What is read.
 #[derive(Clone, Copy, PartialEq, Eq, Debug)]
@@ -25,5 +36,111 @@ fn is_ended<T: Drop>(found: Found<'_, T>) -> Result<bool, NoMemory>
         Err(Stop::Memory) => Err(NoMemory),
         Err(Stop::Syntax(rest)) => Ok(rest.is_empty()),
         Err(Stop::Deep(_)) => Ok(true),
+    }
+}
+
+/// Whether reading these tokens comes to the last of them.
+fn reads_all(
+    alloc: Global,
+    wanted: Wanted,
+    names: &TypeNames,
+    ts: &[Token],
+) -> Result<bool, NoMemory>
+    ensures { IfOk result (λ b. b ≡ is_ended (read_of (phrase_of wanted) names.now ts.now)) }
+{
+    match wanted {
+        Wanted::Expr => is_ended(expr(alloc, names, LEVELS, level::COMMA, ts)),
+        Wanted::Type => is_ended(type_form(alloc, names, LEVELS, ts)),
+    }
+}
+
+/// A token of this spelling.
+fn token(alloc: Global, kind: Kind, text: &[u8]) -> Result<Token, NoMemory>
+    ensures { IfOk result (λ t. t ≡ left.token kind text.now) }
+{
+    Ok(Token {
+        kind,
+        text: Name::new(alloc, text)?,
+        pos: Pos {
+            file: 0,
+            line: 1,
+            col: 1,
+        },
+        first: false,
+    })
+}
+
+/// The tokens with one more behind them.
+fn with_token(alloc: Global, before: &[Token], probe: Token) -> Result<Vec<Token>, NoMemory>
+    ensures { IfOk result (λ ts. ts.items ≡ before.now ++ (probe ∷ [])) }
+{
+    let mut longer = before.to_vec(alloc)?;
+    longer.push(probe)?;
+    Ok(longer)
+}
+
+/// Whether a token of this spelling could stand behind those that were read.
+fn could_stand(
+    alloc: Global,
+    wanted: Wanted,
+    names: &TypeNames,
+    before: &[Token],
+    kind: Kind,
+    text: &[u8],
+) -> Result<bool, NoMemory>
+    requires { BeginsIn (most (phrase_of wanted)) (phrase_of wanted) names.now before.now }
+    ensures { IfOk result (Tells (Begins (phrase_of wanted) names.now (before.now ++ (left.token kind text.now ∷ [])))) }
+{
+    let probe = token(alloc, kind, text)?;
+    let longer = with_token(alloc, before, probe)?;
+    reads_all(alloc, wanted, names, longer.as_slice())
+}
+
+/// Whether the place behind those that were read is such a one.
+fn is_meant(
+    alloc: Global,
+    wanted: Wanted,
+    names: &TypeNames,
+    before: &[Token],
+    place: Place,
+) -> Result<bool, NoMemory>
+    requires { BeginsIn (most (phrase_of wanted)) (phrase_of wanted) names.now before.now }
+    ensures { IfOk result (Tells (left.IsMeant (phrase_of wanted) names.now before.now place)) }
+{
+    match place {
+        Place::Anywhere => Ok(true),
+        Place::Type => could_stand(alloc, wanted, names, before, Kind::Word, b"void"),
+        Place::Operand => could_stand(alloc, wanted, names, before, Kind::Number, b"0"),
+        Place::Declarator => {
+            if !could_stand(alloc, wanted, names, before, Kind::Sign, b"*")? {
+                return Ok(false);
+            }
+            could_stand(alloc, wanted, names, before, Kind::Word, b"a")
+        }
+        Place::FieldEnd => could_stand(alloc, wanted, names, before, Kind::Sign, b";"),
+        Place::SecondLong => Ok(ends_long(names, before)),
+    }
+}
+
+/// The form that is left out, where the token begins one behind those that were read.
+pub fn left_out(
+    alloc: Global,
+    wanted: Wanted,
+    names: &TypeNames,
+    before: &[Token],
+    token: &Token,
+) -> Result<Option<Left>, NoMemory>
+    requires { BeginsIn (most (phrase_of wanted)) (phrase_of wanted) names.now before.now }
+    ensures { IfOk result (TellsForm (phrase_of wanted) names.now before.now token.now) }
+{
+    match row(token) {
+        None => Ok(None),
+        Some((word, place)) => {
+            if is_meant(alloc, wanted, names, before, place)? {
+                Ok(Some(word))
+            } else {
+                Ok(None)
+            }
+        }
     }
 }

@@ -1,5 +1,5 @@
 use Rattle.std.proofs.Common.{◌≡◌, ap, ◌∙◌}
-use Rattle.nesc_parse_c.specs.Spelling.{row_of}
+use Rattle.nesc_operands.specs.Spelling.{row_of}
 use Rattle.nesc_parse_c.specs.Left.{Row, row, words}
 use Rattle.nesc_parse_c.proofs.left.row.Goals as goal
 

@@ -1,0 +1,3 @@
+pub mod Guards
+pub mod Operands
+pub mod Spelling

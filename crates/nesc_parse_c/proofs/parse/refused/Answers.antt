@@ -1,0 +1,30 @@
+use Rattle.std.proofs.Common.{◌≡◌, drop, None, Some, sym, subst}
+use Rattle.nesc_tree.specs.Reach.{BeginsIn}
+use Rattle.nesc_parse_c.specs.Parsed.{most}
+use Rattle.nesc_parse_c.specs.Probes.{phrase_of, TellsForm}
+use Rattle.nesc_parse_c.proofs.Refusals.{rest_fits, starts_before, begins, first_of, at_end, plain, left_out}
+use Rattle.nesc_parse_c.proofs.parse.refused.Goals as goal
+
+pub before_rest-before-requires-clause-whole : goal.before_rest-before-requires-clause-whole
+before_rest-before-requires-clause-whole c = rest_fits c.args.wanted c.args.file c.args.ts.now c.args.at c.args.names.now c.requires.inside c.args.rest.now c.requires.stops
+
+pub before_rest-before-requires-clause-starts : goal.before_rest-before-requires-clause-starts
+before_rest-before-requires-clause-starts c = starts_before c.args.wanted c.args.file c.args.ts.now c.args.at c.args.names.now c.requires.inside c.args.rest.now c.requires.stops
+
+pub left_out-requires : goal.left_out-requires
+left_out-requires c = subst (BeginsIn (most (phrase_of c.args.wanted)) (phrase_of c.args.wanted) c.args.names.now) (sym c.before_rest-before.ensures) (begins c.args.wanted c.args.file c.args.ts.now c.args.at c.args.names.now c.requires.inside c.args.rest.now c.requires.stops)
+
+pub returns-in-empty : goal.returns-in-empty
+returns-in-empty c = at_end c.args.wanted c.args.file c.args.ts.now c.args.at c.args.names.now c.requires.inside c.args.rest.now c.requires.stops c.place_of-pos.result c.place_of-pos.ensures c.in-empty.len_below
+
+pub returns-in-Ok-None : goal.returns-in-Ok-None
+returns-in-Ok-None c =
+    let first = first_of c.args.rest.now c.token-item.result c.in-len1-up.len_at_least c.token-item.is in
+    plain c.args.wanted c.args.file c.args.ts.now c.args.at c.args.names.now c.requires.inside c.args.rest.now c.requires.stops c.place_of-pos.result c.place_of-pos.ensures c.token-item.result (drop 1 c.args.rest.now) first
+    (subst (λ us. TellsForm (phrase_of c.args.wanted) c.args.names.now us c.token-item.result None) c.before_rest-before.ensures (subst (TellsForm (phrase_of c.args.wanted) c.args.names.now c.before_rest-before.result.now c.token-item.result) c.in-Ok-None.field-0-is c.in-Ok-None.ensures))
+
+pub returns-in-Ok-Some : goal.returns-in-Ok-Some
+returns-in-Ok-Some c =
+    let first = first_of c.args.rest.now c.token-item.result c.in-len1-up.len_at_least c.token-item.is in
+    left_out c.args.wanted c.args.file c.args.ts.now c.args.at c.args.names.now c.requires.inside c.args.rest.now c.requires.stops c.place_of-pos.result c.place_of-pos.ensures c.token-item.result (drop 1 c.args.rest.now) first c.in-Ok-Some.word
+    (subst (λ us. TellsForm (phrase_of c.args.wanted) c.args.names.now us c.token-item.result (Some c.in-Ok-Some.word)) c.before_rest-before.ensures (subst (TellsForm (phrase_of c.args.wanted) c.args.names.now c.before_rest-before.result.now c.token-item.result) c.in-Ok-Some.field-0-is c.in-Ok-Some.ensures))

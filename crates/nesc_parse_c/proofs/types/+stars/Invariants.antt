@@ -1,5 +1,0 @@
--- The levels that are left fall.
-use Rattle.nesc_parse_c.proofs.types.+stars.Given as goal
-
-abbrev pub decreases-stars : goal.decreases-stars
-decreases-stars l = l.spare

@@ -1,0 +1,5 @@
+pub mod Turns
+pub mod Dispatch
+pub mod Climb
+pub mod BehindParen
+pub mod Levels

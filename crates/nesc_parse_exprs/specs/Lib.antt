@@ -1,0 +1,5 @@
+pub mod Climbing
+pub mod Growing
+pub mod Parts
+pub mod Stops
+pub mod Turns

@@ -1,0 +1,43 @@
+//! The reader of expressions.
+
+ghost use Rattle.std.specs.Prelude.{◌≡◌};
+ghost use Rattle.nesc_tree.specs.Phrase as phrase;
+ghost use Rattle.nesc_tree.specs.Grammar as grammar;
+ghost use Rattle.nesc_parse_types.specs.Gives.{Gives, Nests, form_in};
+ghost use Rattle.nesc_parse_exprs.specs.Climbing.{opened_form};
+
+use nesc_parse_types::{Found, Reader};
+use nesc_tree::{Fields, Operand, TypeNames, level};
+use nm_base::Token;
+use std::alloc::Global;
+
+/// Reads expressions, and the types in them by its reader.
+#[derive(Drop)]
+pub struct ExprReader<'n, E, O, F> {
+    pub reader: Reader<'n, E, O, F>,
+}
+
+impl<
+    'a,
+    E: Fn(Global, &TypeNames, usize, u8, &'a [Token]) -> Found<'a, Operand>,
+    O: Fn(Global, &TypeNames, usize, &Token, &'a [Token]) -> Found<'a, Operand>,
+    F: Fn(Global, &TypeNames, usize, &'a [Token]) -> Found<'a, Fields>,
+> ExprReader<'_, E, O, F> {
+    /// An expression of at least this level.
+    pub fn expr_of(&self, least: u8, ts: &'a [Token]) -> Found<'a, Operand>
+        requires nests { Nests self.now.reader.spare (E.pre self.now.reader.expr) (E.post self.now.reader.expr) (O.pre self.now.reader.opened) (O.post self.now.reader.opened) (F.pre self.now.reader.fields) (F.post self.now.reader.fields) }
+        ensures { Gives self.now.reader.names.now result (form_in self.now.reader.spare (grammar.production (phrase.Phrase.expr least)) self.now.reader.names.now ts.now) }
+    {
+        let (first, rest) = self.primary(ts)?;
+        self.climb(least, first, rest)
+    }
+
+    /// What is behind the `(` that a postfix expression begins with, and that expression.
+    pub fn opened_of(&self, opening: &Token, ts: &'a [Token]) -> Found<'a, Operand>
+        requires nests { Nests self.now.reader.spare (E.pre self.now.reader.expr) (E.post self.now.reader.expr) (O.pre self.now.reader.opened) (O.post self.now.reader.opened) (F.pre self.now.reader.fields) (F.post self.now.reader.fields) }
+        ensures { Gives self.now.reader.names.now result (form_in self.now.reader.spare (opened_form opening.now) self.now.reader.names.now ts.now) }
+    {
+        let (first, rest) = self.parens(opening, ts)?;
+        self.climb(level::POSTFIX, first, rest)
+    }
+}
