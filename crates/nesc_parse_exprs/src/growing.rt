@@ -32,7 +32,7 @@ pub enum Growing<'a> {
 pub fn grown(alloc: Global, left: Operand, growing: Growing<'_>) -> Result<Operand, NoMemory>
     requires first { left.height < 2 ^ 63 }
     requires second { (growth_of growing).height < 2 ^ 63 }
-    ensures { IfOk result (λ x. x ≡ grammar.grown (growth_of growing) left) }
+    ensures { IfOk result (λ x. x ≡ grammar.grown (growth_of growing.entry) left) }
 {
     match growing {
         Growing::Binary(op, binds, right) => binary_operand(alloc, op, binds, left, right),
