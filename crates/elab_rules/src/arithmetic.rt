@@ -13,7 +13,8 @@ use nesc_types::promoted;
 use nm_base::{Fault, IntType, NoMemory, Pos};
 use std::alloc::Global;
 
-pub(crate) fn bin(
+/// An operator between two values at one type.
+pub fn bin(
     alloc: Global,
     o: BinOp,
     t: IntType,
@@ -31,7 +32,8 @@ fn un(alloc: Global, o: UnOp, t: IntType, e: CoreExpr) -> Result<CoreExpr, NoMem
     Ok(CoreExpr::Un(o, t, Box::new(alloc, e)?))
 }
 
-pub(crate) fn promoted_value(alloc: Global, t: IntType, e: CoreExpr) -> Result<CoreExpr, NoMemory>
+/// A number at its promoted type.
+pub fn promoted_value(alloc: Global, t: IntType, e: CoreExpr) -> Result<CoreExpr, NoMemory>
     ensures { IfOk result (λ r. expr_of r ≡ spec.promoted_value t (expr_of e)) }
 {
     to_int(alloc, promoted(t), t, e)
@@ -46,7 +48,8 @@ pub fn plus(alloc: Global, at: Pos, v: Typed) -> Result<Found, Fault>
     Ok(value_found(e, CoreType::Int(promoted(t))))
 }
 
-pub(crate) fn negated(alloc: Global, t: IntType, e: CoreExpr) -> Result<CoreExpr, NoMemory>
+/// A number at its promoted type, negated.
+pub fn negated(alloc: Global, t: IntType, e: CoreExpr) -> Result<CoreExpr, NoMemory>
     ensures { IfOk result (λ r. expr_of r ≡ spec.negated t (expr_of e)) }
 {
     let operand = promoted_value(alloc, t, e)?;

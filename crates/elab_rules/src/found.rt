@@ -37,7 +37,8 @@ pub struct Target {
     pub ty: CoreType,
 }
 
-pub(crate) fn bad_type<T>(at: Pos) -> Result<T, Fault>
+/// The refusal of what does not fit.
+pub fn bad_type<T>(at: Pos) -> Result<T, Fault>
     ensures { result ≡ Err (Fault.Refused (Refusal.BadType at)) }
 {
     Err(Fault::Refused(Refusal::BadType(at)))
@@ -83,7 +84,8 @@ fn is_same_int(t: IntType, u: IntType) -> bool
     t == u
 }
 
-pub(crate) fn is_void(t: &CoreType) -> bool
+/// Whether it is the type of nothing.
+pub fn is_void(t: &CoreType) -> bool
     ensures { result ≡ spec.is_void (type_of t.now) }
 {
     match t {

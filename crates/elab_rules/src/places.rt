@@ -76,8 +76,8 @@ impl Work {
 
 // ---- elements
 
-// What is behind a pointer to this type, which is never const.
-fn behind(alloc: Global, pointer: CoreExpr, part: CoreType) -> Result<Found, NoMemory>
+/// What is behind a pointer to this type, which is never const.
+pub fn behind(alloc: Global, pointer: CoreExpr, part: CoreType) -> Result<Found, NoMemory>
     ensures { IfOk result (λ r. found_of r ≡ spec.behind (expr_of pointer) (type_of part)) }
 {
     let ty = copied(alloc, &part)?;

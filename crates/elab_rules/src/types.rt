@@ -148,7 +148,8 @@ pub fn array_length(at: Pos, n: i64) -> Result<u32, Fault>
     }
 }
 
-fn array_of(
+/// An array of so many parts, whose size is known and not too large.
+pub fn array_of(
     alloc: Global,
     structs: &[Struct],
     at: Pos,
