@@ -1,0 +1,5 @@
+pub mod Answered
+pub mod Behaving
+pub mod Roots
+pub mod Selected
+pub mod Whole

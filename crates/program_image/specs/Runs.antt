@@ -1,0 +1,62 @@
+-- What is promised of a program's image (own).
+use Rattle.std.specs.Prelude.{ℕ, ◌+◌, ◌≤◌, List}
+use Rattle.mote_devices.specs.declared.state.BoardState.{BoardState}
+use Rattle.mote_devices.specs.declared.shown.Due.{Due}
+use Rattle.nesc_core.specs.Plain.{Program}
+use Rattle.nesc_core.specs.Calls.{HasNoCycle}
+use Rattle.nesc_core.specs.Weights.{pace_of_program}
+use Rattle.nesc_core.specs.WellFormed.{BeginsContext, IsWellFormed}
+use Rattle.core_meaning.specs.SourceOf.{source_of}
+use Rattle.msp_isa.specs.declared.code.CodeFn.{CodeFn}
+use Rattle.msp_isa.specs.Stands.{IsLaid}
+use Rattle.mote_bus.specs.Mote.{mote}
+use Rattle.lower_stmt.specs.Bodies.{lowered}
+use Rattle.lower_form.specs.Short.{IsShort}
+use Rattle.lower_pace.specs.Pace.{IsMeasured, between_actions, heaviest_of, help_bound, longest_of, own_of}
+use Rattle.lower_pace.specs.Silent.{silent_size}
+use Rattle.open_law.specs.Body.{IsOpenBody}
+use Rattle.msp_select.specs.Laid.{start_of}
+use Rattle.msp_select.specs.Sound.{IsSelected}
+use Rattle.preempt_core.specs.Allowed.{Allowed}
+use Rattle.preempt_bodies.specs.Bodies.{AreWordRows, stack_of}
+use Rattle.preempt_bodies.specs.WordBoards.{IsWordBoard, IsWordGiven}
+use Rattle.program_image.specs.Image.{IsImage, homes_of, marks_of, sizes_of}
+use Rattle.program_image.specs.Owed.{IsOwed}
+
+-- a well-formed program without cycles of calls, which is short and measured, and its image; what is owed stands beside it
+pub record IsBuiltOf (p : Program) (deep : ℕ → ℕ) (image : ℕ → ℕ) (data_end handler_depth : ℕ) (code : List CodeFn) (entries : ℕ → ℕ) : Type 0 where
+  pub well : IsWellFormed p
+  pub ranked : HasNoCycle p
+  pub short : IsShort p
+  pub measured : IsMeasured p
+  pub laid : IsLaid image code entries
+  pub stands : IsImage p deep image data_end handler_depth code entries
+  pub owed : IsOwed p image data_end code entries laid.places
+
+module _ (p : Program) (deep : ℕ → ℕ) (image : ℕ → ℕ) (data_end : ℕ) (entries : ℕ → ℕ) (places : ℕ → ℕ → ℕ) where
+  -- a function meets selection's premises, with routines that the pace affords
+  pub record IsSelectedRoot (root : ℕ) : Type 0 where
+    pub gives : ℕ
+    pub selected : IsSelected (lowered p) (homes_of p) (own_of p) deep (silent_size (lowered p) (λ i. 1) (heaviest_of p)) (heaviest_of p) (longest_of p) root gives data_end image (marks_of p places) entries
+        (λ f at. places f (start_of (lowered p) (homes_of p) (own_of p) f at))
+    pub help : selected.most_help ≤ help_bound p
+
+-- the functions of the boot body and of handlers do
+abbrev pub LoweredCodeIsSelected : Type 0
+LoweredCodeIsSelected =
+    (p : Program) (deep : ℕ → ℕ) (image : ℕ → ℕ) (data_end handler_depth : ℕ) (code : List CodeFn) (entries : ℕ → ℕ) (built : IsBuiltOf p deep image data_end handler_depth code entries) →
+    (root : ℕ) → BeginsContext p root → IsSelectedRoot p deep image data_end entries built.laid.places root
+
+-- their code meets the open law of what the bodies do in the source
+abbrev pub RootsMeetTheirLaws : Type 0
+RootsMeetTheirLaws =
+    (p : Program) (deep : ℕ → ℕ) (image : ℕ → ℕ) (data_end handler_depth : ℕ) (code : List CodeFn) (entries : ℕ → ℕ) (built : IsBuiltOf p deep image data_end handler_depth code entries) →
+    (root : ℕ) → BeginsContext p root → IsOpenBody image data_end (marks_of p built.laid.places) ((source_of p).act root) (entries root) (deep root) (between_actions p root)
+
+-- On every board and every schedule of words, after every number of slots, the mote did what the program does, at its pace; and its
+-- stack stays within the sum of the depths
+abbrev pub ProgramImagesRun : Type 0
+ProgramImagesRun =
+    (p : Program) (deep : ℕ → ℕ) (image : ℕ → ℕ) (data_end handler_depth : ℕ) (code : List CodeFn) (entries : ℕ → ℕ) (b : BoardState) (rows : List Due) (n : ℕ) →
+    IsBuiltOf p deep image data_end handler_depth code entries → IsWordBoard b → AreWordRows IsWordGiven rows →
+    Allowed (source_of p) (pace_of_program p) b (mote image b rows) n × (0x3900 ≤ (mote image b rows n).least + stack_of (sizes_of p deep data_end handler_depth entries))

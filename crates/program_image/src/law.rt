@@ -1,0 +1,25 @@
+//! From nesC programs to runs of the mote.
+
+ghost use Rattle.program_image.specs.Bodies.{BehaviourKeepsLaws};
+ghost use Rattle.program_image.specs.Runs.{LoweredCodeIsSelected, ProgramImagesRun, RootsMeetTheirLaws};
+
+/// Code that meets the open law of one body meets that of another which the first behaves as.
+pub fn behaviour_keeps_laws()
+    ensures { BehaviourKeepsLaws }
+{}
+
+/// In a program's image the functions of the boot body and of handlers meet selection's premises.
+pub fn lowered_code_is_selected()
+    ensures { LoweredCodeIsSelected }
+{}
+
+/// Their code meets the open law of what the bodies do in the source, with a bound that leaves room in half of the program's pace.
+pub fn roots_meet_their_laws()
+    ensures { RootsMeetTheirLaws }
+{}
+
+/// With the image of a program the mote does what the program does, at its pace: on every board whose registers hold words, with every
+/// schedule of words, after every number of slots; and its stack stays within its bound.
+pub fn program_images_run()
+    ensures { ProgramImagesRun }
+{}

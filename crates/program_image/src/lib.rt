@@ -1,0 +1,8 @@
+//! Images of nesC programs: the mote does what the source does, with interrupts at every slot.
+#![tactic(auto)]
+
+mod law;
+
+pub use law::{
+    behaviour_keeps_laws, lowered_code_is_selected, program_images_run, roots_meet_their_laws,
+};
