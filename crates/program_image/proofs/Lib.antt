@@ -3,3 +3,4 @@ pub mod Behaving
 pub mod Roots
 pub mod Selected
 pub mod Whole
+pub mod Ordered

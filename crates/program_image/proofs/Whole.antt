@@ -78,8 +78,7 @@ module _ (p : Program) (deep : ℕ → ℕ) (image : ℕ → ℕ) (data_end hand
       let context = handler_begins p v f e in
       let there = root_there p f (root_body p built.well f context) in
       let le = h.handlers v f e in
-      let long = within (between_actions p f) half (selected_law f context).1 in
-      (
+      let long = within (between_actions p f) half (selected_law f context).1 in (
         small_function p deep image data_end handler_depth code entries built f there,
         even_function p deep image data_end handler_depth code entries built f there,
         (wider_is_met image data_end marks (P.act f) (entries f) (deep f) (handler_depth - 26) (between_actions p f) (half - 28) (omega (arith, le)) long (root_law f context)).1,

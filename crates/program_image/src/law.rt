@@ -1,6 +1,7 @@
 //! From nesC programs to runs of the mote.
 
 ghost use Rattle.program_image.specs.Bodies.{BehaviourKeepsLaws};
+ghost use Rattle.program_image.specs.Order.{OrderedCodeStands};
 ghost use Rattle.program_image.specs.Runs.{LoweredCodeIsSelected, ProgramImagesRun, RootsMeetTheirLaws};
 
 /// Code that meets the open law of one body meets that of another which the first behaves as.
@@ -16,6 +17,12 @@ pub fn lowered_code_is_selected()
 /// Their code meets the open law of what the bodies do in the source, with a bound that leaves room in half of the program's pace.
 pub fn roots_meet_their_laws()
     ensures { RootsMeetTheirLaws }
+{}
+
+/// Functions of bodies, routines, and the code of reset and of the lines, laid out in this order, with vectors that lead to reset and to
+/// the lines, are a program's image.
+pub fn ordered_code_stands()
+    ensures { OrderedCodeStands }
 {}
 
 /// With the image of a program the mote does what the program does, at its pace: on every board whose registers hold words, with every

@@ -1,0 +1,54 @@
+-- The code of a program's image in its order, and what else is asked of where it stands (own).
+use Rattle.std.specs.Prelude.{◌≡◌, ℕ, ◌+◌, ◌*◌, ◌<◌, ◌≤◌, List, ◌∷◌, ◌++◌, length, map, Some}
+use Rattle.std.specs.List.{range_with_len}
+use Rattle.nesc_core.specs.Plain.{Program}
+use Rattle.core_meaning.specs.SourceOf.{handler_in}
+use Rattle.msp_isa.specs.declared.code.CodeFn.{CodeFn}
+use Rattle.msp_isa.specs.Stands.{items_of, word_in}
+use Rattle.msp430_cpu.specs.Cpu.{even}
+use Rattle.lower_stmt.specs.Bodies.{lowered}
+use Rattle.lower_pace.specs.Pace.{own_of}
+use Rattle.code_pieces.specs.Pieces.{handler_of, reset_of}
+use Rattle.msp_select.specs.Laid.{parts}
+use Rattle.msp_select.specs.Select.{items_of as items_of_parts}
+use Rattle.msp_select.specs.Sound.{IsDeep}
+use Rattle.msp_runtime.specs.Emitted.{operation_fns}
+use Rattle.preempt_bodies.specs.Bodies.{stack_of}
+use Rattle.program_image.specs.Image.{IsImage, functions_of, homes_of, sizes_of}
+
+abbrev pub line_of : Program → ℕ → CodeFn
+line_of p v = handler_of (handler_in p.handlers v)
+
+-- reset, and the lines 0 to 7
+abbrev pub pieces_of : Program → List CodeFn
+pieces_of p = reset_of p.boot ∷ map (line_of p) (range_with_len 0 8)
+
+-- functions of bodies, routines of operations and of checks, and the pieces
+abbrev pub image_code : Program → (functions checks : List CodeFn) → List CodeFn
+image_code p functions checks = functions ++ (operation_fns ++ (checks ++ pieces_of p))
+
+-- the place of reset; behind it stand the lines
+abbrev pub reset_place : Program → ℕ
+reset_place p = functions_of p + (48 + length (lowered p).checks)
+
+-- Functions with the items that selection gives, as many checks as the lowered program has, and vectors that lead to reset and to the
+-- lines
+pub record IsOrdered (p : Program) (deep : ℕ → ℕ) (image : ℕ → ℕ) (data_end handler_depth : ℕ) (functions checks : List CodeFn) (entries : ℕ → ℕ) : Type 0 where
+  pub many : length functions ≡ functions_of p
+  pub items : (f : ℕ) → f < functions_of p → items_of functions f ≡ items_of_parts (parts (lowered p) (homes_of p) (own_of p) f)
+  pub many_checks : length checks ≡ length (lowered p).checks
+  pub even_entry : (f : ℕ) → f < functions_of p + 48 → even (entries f) ≡ entries f
+  pub small_entry : (f : ℕ) → f < functions_of p + 48 → entries f < 0x10000
+  pub depths : (f : ℕ) → f < functions_of p → IsDeep (lowered p) (homes_of p) (own_of p) deep f
+  pub least_depth : 26 ≤ handler_depth
+  pub handlers : (v f : ℕ) → handler_in p.handlers v ≡ Some f → 26 + deep f ≤ handler_depth
+  pub low_end : 0x1100 ≤ data_end
+  pub even_end : even data_end ≡ data_end
+  pub room : data_end + stack_of (sizes_of p deep data_end handler_depth entries) ≤ 0x3900
+  pub reset_vector : word_in image 0xFFFE ≡ entries (reset_place p)
+  pub vectors : (v : ℕ) → v < 8 → word_in image (0xFFE0 + 2 * v) ≡ entries (reset_place p + (v + 1))
+
+abbrev pub OrderedCodeStands : Type 0
+OrderedCodeStands =
+    (p : Program) (deep : ℕ → ℕ) (image : ℕ → ℕ) (data_end handler_depth : ℕ) (functions checks : List CodeFn) (entries : ℕ → ℕ) →
+    IsOrdered p deep image data_end handler_depth functions checks entries → IsImage p deep image data_end handler_depth (image_code p functions checks) entries
