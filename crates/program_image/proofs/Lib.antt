@@ -3,4 +3,5 @@ pub mod Behaving
 pub mod Roots
 pub mod Selected
 pub mod Whole
+pub mod Vectors
 pub mod Ordered

@@ -14,7 +14,8 @@ use Rattle.msp_select.specs.Select.{items_of as items_of_parts}
 use Rattle.msp_runtime.specs.Code.{routine_items}
 use Rattle.msp_runtime.specs.Emitted.{code_fn, operation_fns}
 use Rattle.msp_runtime.specs.Routines.{code_at}
-use Rattle.program_image.specs.Image.{IsImage, functions_of, homes_of}
+use Rattle.program_image.specs.Image.{IsProgramImage, functions_of, homes_of}
+use Rattle.program_image.proofs.Vectors.{line_leads, reset_leads}
 use Rattle.program_image.specs.Order.{IsOrdered, OrderedCodeStands, image_code, line_of, pieces_of, reset_place}
 
 abbrev operation_code : ℕ → CodeFn
@@ -66,7 +67,7 @@ module _ (p : Program) (functions checks : List CodeFn) (routine : ℕ → CodeF
       ∙ get_or-map-range_with_len (line_of p) 0 8 v v no_code few (omega arith)
 
 pub ordered_code_stands : OrderedCodeStands
-ordered_code_stands p deep image data_end handler_depth functions checks entries h = record {
+ordered_code_stands p deep words vectors data_end handler_depth functions checks entries h = record {
   functions = λ f lt. let m = h.many in ap (λ (g : CodeFn). g.items) (function_at p functions checks operation_code f (omega (arith, m, lt))) ∙ h.items f lt;
   operations = λ n few. ap (λ k. items_of (image_code p functions checks) (k + n)) (sym h.many) ∙ ap (λ (g : CodeFn). g.items) (operation_at p functions checks operation_code n few);
   many = let a = all_long p functions checks operation_code in let b = h.many in let c = h.many_checks in omega (arith, a, b, c);
@@ -81,13 +82,13 @@ ordered_code_stands p deep image data_end handler_depth functions checks entries
   reset = reset_place p;
   reset_is = let a = all_long p functions checks operation_code in let b = h.many in let c = h.many_checks in omega (arith, a, b, c);
   reset_items = ap (λ (g : CodeFn). g.items) (ap (λ k. slice_index_or (image_code p functions checks) k no_code) place ∙ piece_at p functions checks operation_code 0);
-  vector = h.reset_vector;
+  vector = reset_leads entries (reset_place p) words vectors h.leads;
   lines = λ v few. record {
     f = reset_place p + (v + 1);
     is = let a = all_long p functions checks operation_code in let b = h.many in let c = h.many_checks in omega (arith, a, b, c, few);
     behind = omega arith;
     items = ap (λ (g : CodeFn). g.items) (ap (λ k. slice_index_or (image_code p functions checks) k no_code) (behind (v + 1)) ∙ line_at p functions checks operation_code v few);
-    vector = h.vectors v few;
+    vector = line_leads entries (reset_place p) words vectors h.leads v few;
   };
 }
   where

@@ -42,7 +42,7 @@ use Rattle.msp_runtime.specs.Routines.{code_at}
 use Rattle.msp_runtime.proofs.Numbers.{routines_are_routines}
 use Rattle.msp_runtime.proofs.Short.{routines_are_short}
 use Rattle.compiled_image.proofs.Table.{tables_are_marked}
-use Rattle.program_image.specs.Image.{IsImage, functions_of, homes_of, marks_of}
+use Rattle.program_image.specs.Image.{IsProgramImage, functions_of, homes_of, marks_of}
 use Rattle.program_image.specs.Runs.{IsBuiltOf, IsSelectedRoot, LoweredCodeIsSelected}
 use Rattle.program_image.proofs.Roots.{element, root_body, root_params, root_there}
 
@@ -94,7 +94,7 @@ module _ (p : Program) (deep : ℕ → ℕ) (image : ℕ → ℕ) (data_end hand
   abbrev homes : ℕ → ℕ → Home
   homes = homes_of p
 
-  abbrev h : IsImage p deep image data_end handler_depth code entries
+  abbrev h : IsProgramImage p deep image data_end handler_depth code entries
   h = built.stands
 
   abbrev at_places : ℕ → ℕ → ℕ

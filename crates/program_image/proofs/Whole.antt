@@ -24,7 +24,7 @@ use Rattle.preempt_bodies.specs.Bodies.{Serves, Sizes}
 use Rattle.preempt_bodies.specs.Laid.{IsLaidLine, IsLaidOut}
 use Rattle.preempt_bodies.proofs.Laid.{laid_images_are_built}
 use Rattle.preempt_bodies.proofs.Whole.{runs_as_source}
-use Rattle.program_image.specs.Image.{IsImage, homes_of, marks_of, sizes_of}
+use Rattle.program_image.specs.Image.{IsProgramImage, homes_of, marks_of, sizes_of}
 use Rattle.program_image.specs.Runs.{IsBuiltOf, ProgramImagesRun, RootsMeetTheirLaws}
 use Rattle.program_image.proofs.Behaving.{behaviour_keeps_laws}
 use Rattle.program_image.proofs.Roots.{handler_begins, root_body, root_there}
@@ -44,7 +44,7 @@ module _ (p : Program) (deep : ℕ → ℕ) (image : ℕ → ℕ) (data_end hand
   abbrev z : Sizes
   z = sizes_of p deep data_end handler_depth entries
 
-  abbrev h : IsImage p deep image data_end handler_depth code entries
+  abbrev h : IsProgramImage p deep image data_end handler_depth code entries
   h = built.stands
 
   abbrev at_places : ℕ → ℕ → ℕ

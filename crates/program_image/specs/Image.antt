@@ -47,7 +47,7 @@ module _ (p : Program) (deep : ℕ → ℕ) (image : ℕ → ℕ) (data_end hand
     pub vector : word_in image (0xFFE0 + 2 * v) ≡ entries f
 
   -- no function's stack is deeper than `deep` says, and none of a line than `handler_depth`
-  pub record IsImage : Type 0 where
+  pub record IsProgramImage : Type 0 where
     pub functions : (f : ℕ) → f < functions_of p → items_of code f ≡ items_of_parts (parts (lowered p) (homes_of p) (own_of p) f)
     pub operations : (h : ℕ) → h < 48 → items_of code (functions_of p + h) ≡ routine_items (code_at h)
     pub many : functions_of p + (48 + length (lowered p).checks) ≤ length code

@@ -1,10 +1,11 @@
 -- The code of a program's image in its order, and what else is asked of where it stands (own).
-use Rattle.std.specs.Prelude.{◌≡◌, ℕ, ◌+◌, ◌*◌, ◌<◌, ◌≤◌, List, ◌∷◌, ◌++◌, length, map, Some}
+use Rattle.std.specs.Prelude.{◌≡◌, ℕ, ◌+◌, ◌<◌, ◌≤◌, List, ◌∷◌, ◌++◌, length, map, replicate, Some}
 use Rattle.std.specs.List.{range_with_len}
 use Rattle.nesc_core.specs.Plain.{Program}
 use Rattle.core_meaning.specs.SourceOf.{handler_in}
 use Rattle.msp_isa.specs.declared.code.CodeFn.{CodeFn}
-use Rattle.msp_isa.specs.Stands.{items_of, word_in}
+use Rattle.msp_isa.specs.Image.{image_map}
+use Rattle.msp_isa.specs.Stands.{items_of}
 use Rattle.msp430_cpu.specs.Cpu.{even}
 use Rattle.lower_stmt.specs.Bodies.{lowered}
 use Rattle.lower_pace.specs.Pace.{own_of}
@@ -14,7 +15,7 @@ use Rattle.msp_select.specs.Select.{items_of as items_of_parts}
 use Rattle.msp_select.specs.Sound.{IsDeep}
 use Rattle.msp_runtime.specs.Emitted.{operation_fns}
 use Rattle.preempt_bodies.specs.Bodies.{stack_of}
-use Rattle.program_image.specs.Image.{IsImage, functions_of, homes_of, sizes_of}
+use Rattle.program_image.specs.Image.{IsProgramImage, functions_of, homes_of, sizes_of}
 
 abbrev pub line_of : Program → ℕ → CodeFn
 line_of p v = handler_of (handler_in p.handlers v)
@@ -31,9 +32,12 @@ image_code p functions checks = functions ++ (operation_fns ++ (checks ++ pieces
 abbrev pub reset_place : Program → ℕ
 reset_place p = functions_of p + (48 + length (lowered p).checks)
 
--- Functions with the items that selection gives, as many checks as the lowered program has, and vectors that lead to reset and to the
--- lines
-pub record IsOrdered (p : Program) (deep : ℕ → ℕ) (image : ℕ → ℕ) (data_end handler_depth : ℕ) (functions checks : List CodeFn) (entries : ℕ → ℕ) : Type 0 where
+abbrev pub lines_of : Program → List ℕ
+lines_of p = range_with_len (reset_place p + 1) 8
+
+-- Functions with the items that selection gives, as many checks as the lowered program has, and vectors that lead to the lines, all
+-- others to reset
+pub record IsOrdered (p : Program) (deep : ℕ → ℕ) (words vectors : List ℕ) (data_end handler_depth : ℕ) (functions checks : List CodeFn) (entries : ℕ → ℕ) : Type 0 where
   pub many : length functions ≡ functions_of p
   pub items : (f : ℕ) → f < functions_of p → items_of functions f ≡ items_of_parts (parts (lowered p) (homes_of p) (own_of p) f)
   pub many_checks : length checks ≡ length (lowered p).checks
@@ -45,10 +49,9 @@ pub record IsOrdered (p : Program) (deep : ℕ → ℕ) (image : ℕ → ℕ) (d
   pub low_end : 0x1100 ≤ data_end
   pub even_end : even data_end ≡ data_end
   pub room : data_end + stack_of (sizes_of p deep data_end handler_depth entries) ≤ 0x3900
-  pub reset_vector : word_in image 0xFFFE ≡ entries (reset_place p)
-  pub vectors : (v : ℕ) → v < 8 → word_in image (0xFFE0 + 2 * v) ≡ entries (reset_place p + (v + 1))
+  pub leads : vectors ≡ map entries (lines_of p) ++ replicate 8 (entries (reset_place p))
 
 abbrev pub OrderedCodeStands : Type 0
 OrderedCodeStands =
-    (p : Program) (deep : ℕ → ℕ) (image : ℕ → ℕ) (data_end handler_depth : ℕ) (functions checks : List CodeFn) (entries : ℕ → ℕ) →
-    IsOrdered p deep image data_end handler_depth functions checks entries → IsImage p deep image data_end handler_depth (image_code p functions checks) entries
+    (p : Program) (deep : ℕ → ℕ) (words vectors : List ℕ) (data_end handler_depth : ℕ) (functions checks : List CodeFn) (entries : ℕ → ℕ) →
+    IsOrdered p deep words vectors data_end handler_depth functions checks entries → IsProgramImage p deep (image_map words vectors) data_end handler_depth (image_code p functions checks) entries

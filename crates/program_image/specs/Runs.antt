@@ -20,7 +20,7 @@ use Rattle.msp_select.specs.Sound.{IsSelected}
 use Rattle.preempt_core.specs.Allowed.{Allowed}
 use Rattle.preempt_bodies.specs.Bodies.{AreWordRows, stack_of}
 use Rattle.preempt_bodies.specs.WordBoards.{IsWordBoard, IsWordGiven}
-use Rattle.program_image.specs.Image.{IsImage, homes_of, marks_of, sizes_of}
+use Rattle.program_image.specs.Image.{IsProgramImage, homes_of, marks_of, sizes_of}
 use Rattle.program_image.specs.Owed.{IsOwed}
 
 -- a well-formed program without cycles of calls, which is short and measured, and its image; what is owed stands beside it
@@ -30,7 +30,7 @@ pub record IsBuiltOf (p : Program) (deep : ℕ → ℕ) (image : ℕ → ℕ) (d
   pub short : IsShort p
   pub measured : IsMeasured p
   pub laid : IsLaid image code entries
-  pub stands : IsImage p deep image data_end handler_depth code entries
+  pub stands : IsProgramImage p deep image data_end handler_depth code entries
   pub owed : IsOwed p image data_end code entries laid.places
 
 module _ (p : Program) (deep : ℕ → ℕ) (image : ℕ → ℕ) (data_end : ℕ) (entries : ℕ → ℕ) (places : ℕ → ℕ → ℕ) where
