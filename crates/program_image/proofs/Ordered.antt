@@ -71,8 +71,6 @@ ordered_code_stands p deep words vectors data_end handler_depth functions checks
   functions = λ f lt. let m = h.many in ap (λ (g : CodeFn). g.items) (function_at p functions checks operation_code f (omega (arith, m, lt))) ∙ h.items f lt;
   operations = λ n few. ap (λ k. items_of (image_code p functions checks) (k + n)) (sym h.many) ∙ ap (λ (g : CodeFn). g.items) (operation_at p functions checks operation_code n few);
   many = let a = all_long p functions checks operation_code in let b = h.many in let c = h.many_checks in omega (arith, a, b, c);
-  even_entry = h.even_entry;
-  small_entry = h.small_entry;
   depths = h.depths;
   least_depth = h.least_depth;
   handlers = h.handlers;

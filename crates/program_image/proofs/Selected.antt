@@ -36,7 +36,7 @@ use Rattle.msp_select.specs.Sound.{IsSelectable, IsStanding}
 use Rattle.msp_select.proofs.Bounds.{frames_are_small}
 use Rattle.msp_select.proofs.Frames.{frames_fit}
 use Rattle.msp_select.proofs.Laid.{laid_code_stands}
-use Rattle.msp_runtime.specs.Code.{weight}
+use Rattle.msp_runtime.specs.Code.{routine_items, weight}
 use Rattle.msp_runtime.specs.Laws.{IsUnmarked}
 use Rattle.msp_runtime.specs.Routines.{code_at}
 use Rattle.msp_runtime.proofs.Numbers.{routines_are_routines}
@@ -44,6 +44,7 @@ use Rattle.msp_runtime.proofs.Short.{routines_are_short}
 use Rattle.compiled_image.proofs.Table.{tables_are_marked}
 use Rattle.program_image.specs.Image.{IsProgramImage, functions_of, homes_of, marks_of}
 use Rattle.program_image.specs.Runs.{IsBuiltOf, IsSelectedRoot, LoweredCodeIsSelected}
+use Rattle.program_image.proofs.Entries.{entry_is, function_begins, routine_begins}
 use Rattle.program_image.proofs.Roots.{element, root_body, root_params, root_there}
 
 -- ---- routines
@@ -117,11 +118,14 @@ module _ (p : Program) (deep : ℕ → ℕ) (image : ℕ → ℕ) (data_end hand
   pub marked : AreMarked c homes own marks at_places × ((g a : ℕ) → functions_of p ≤ g → g < length code → at_places g 0 ≤ a → marks a ≡ [])
   marked = tables_are_marked c homes own code at_places functions_few h.functions built.owed.order
 
+  function_entry : (f : ℕ) → f < functions_of p → (even (entries f) ≡ entries f) × (entries f < 0x10000)
+  function_entry f lt = let m = h.many in entry_is image code entries built.laid f _ (omega (arith, m, lt)) (h.functions f lt) (function_begins p built.well f lt)
+
   pub even_function : (f : ℕ) → f < functions_of p → even (entries f) ≡ entries f
-  even_function f lt = h.even_entry f (omega (arith, lt))
+  even_function f lt = (function_entry f lt).0
 
   pub small_function : (f : ℕ) → f < functions_of p → entries f < 0x10000
-  small_function f lt = h.small_entry f (omega (arith, lt))
+  small_function f lt = (function_entry f lt).1
 
   standing : IsStanding c homes own deep image marks entries (λ f at. at_places f (start_of c homes own f at))
   standing = laid_code_stands c homes own deep image marks entries code built.laid form functions_few h.functions even_function small_function marked.0
@@ -141,8 +145,9 @@ module _ (p : Program) (deep : ℕ → ℕ) (image : ℕ → ℕ) (data_end hand
       let m = h.many in
       let lt : f < length code = omega (arith, m, few) in
       let is = (routines_are_short n).0 in
+      let entry = entry_is image code entries built.laid f (routine_items (code_at n)) lt (h.operations n few) (routine_begins n) in
       longer _ _ image data_end marks (entries f) (weight (code_at n) + 2) (help_bound p) (omega (arith, is))
-      (routines_are_routines c image data_end marks entries code built.laid f n few h.low_end lt (h.operations n few) (unmarked f (omega arith) lt) (h.even_entry f (omega (arith, few))) (h.small_entry f (omega (arith, few))))
+      (routines_are_routines c image data_end marks entries code built.laid f n few h.low_end lt (h.operations n few) (unmarked f (omega arith) lt) entry.0 entry.1)
 
   routine : (n ins outs : ℕ) → HelpFits (length c.checks) n ins outs → IsRoutine c image data_end marks n (entries (routine_of (functions_of p) n)) (help_bound p)
   routine n ins outs fits = by_kind (nat_lt n first_check) refl fits

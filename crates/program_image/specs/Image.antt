@@ -51,8 +51,6 @@ module _ (p : Program) (deep : ℕ → ℕ) (image : ℕ → ℕ) (data_end hand
     pub functions : (f : ℕ) → f < functions_of p → items_of code f ≡ items_of_parts (parts (lowered p) (homes_of p) (own_of p) f)
     pub operations : (h : ℕ) → h < 48 → items_of code (functions_of p + h) ≡ routine_items (code_at h)
     pub many : functions_of p + (48 + length (lowered p).checks) ≤ length code
-    pub even_entry : (f : ℕ) → f < functions_of p + 48 → even (entries f) ≡ entries f
-    pub small_entry : (f : ℕ) → f < functions_of p + 48 → entries f < 0x10000
     pub depths : (f : ℕ) → f < functions_of p → IsDeep (lowered p) (homes_of p) (own_of p) deep f
     pub least_depth : 26 ≤ handler_depth
     pub handlers : (v f : ℕ) → handler_in p.handlers v ≡ Some f → 26 + deep f ≤ handler_depth

@@ -41,8 +41,6 @@ pub record IsOrdered (p : Program) (deep : ℕ → ℕ) (words vectors : List �
   pub many : length functions ≡ functions_of p
   pub items : (f : ℕ) → f < functions_of p → items_of functions f ≡ items_of_parts (parts (lowered p) (homes_of p) (own_of p) f)
   pub many_checks : length checks ≡ length (lowered p).checks
-  pub even_entry : (f : ℕ) → f < functions_of p + 48 → even (entries f) ≡ entries f
-  pub small_entry : (f : ℕ) → f < functions_of p + 48 → entries f < 0x10000
   pub depths : (f : ℕ) → f < functions_of p → IsDeep (lowered p) (homes_of p) (own_of p) deep f
   pub least_depth : 26 ≤ handler_depth
   pub handlers : (v f : ℕ) → handler_in p.handlers v ≡ Some f → 26 + deep f ≤ handler_depth
