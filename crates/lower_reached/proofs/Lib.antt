@@ -1,0 +1,4 @@
+pub mod Level
+pub mod Depths
+pub mod Nested
+pub mod Reached

@@ -1,0 +1,10 @@
+//! The rules of reached states that lowered programs keep.
+
+ghost use Rattle.lower_reached.specs.Laws.{StatementsNest};
+
+/// In each state that the machine reaches in the code of a well-formed program, from the start of any function and whatever it is
+/// answered: a Begin saves the status at an even place inside the frame, apart from those that are open, an End closes the last open
+/// Begin, no Begin is open at a Ret, and ports are those of the interrupt controller or of a device.
+pub fn statements_nest()
+    ensures { StatementsNest }
+{}

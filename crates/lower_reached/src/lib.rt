@@ -1,0 +1,6 @@
+//! That lowered code keeps the rules of middle code in the states that the machine reaches.
+#![tactic(auto)]
+
+mod laws;
+
+pub use laws::statements_nest;
