@@ -2,3 +2,8 @@ pub mod Level
 pub mod Depths
 pub mod Nested
 pub mod Reached
+pub mod Facts
+pub mod Divided
+pub mod Guards
+pub mod Guarded
+pub mod Divisors

@@ -30,7 +30,7 @@ split_there [] at i e = absurd (cc)
 split_there (x ∷ xs) zero i e = let same : x ≡ i = cc in ap (λ y. y ∷ xs) same
 split_there (x ∷ xs) (suc at) i e = split_there xs at i e
 
-at_split : (xs : List Mid) (at : ℕ) (i : Mid) → slice_get xs at ≡ Some i → drop at xs ≡ i ∷ drop (at + 1) xs
+pub at_split : (xs : List Mid) (at : ℕ) (i : Mid) → slice_get xs at ≡ Some i → drop at xs ≡ i ∷ drop (at + 1) xs
 at_split xs at i e = split_there xs at i e ∙ ap (λ k. i ∷ drop k xs) (sym (add-one at))
 
 all_at : (P : Mid → Type 0) (xs : List Mid) (at : ℕ) (i : Mid) → All P xs → slice_get xs at ≡ Some i → P i

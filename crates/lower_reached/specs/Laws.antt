@@ -18,13 +18,24 @@ is_of_place (Poke is_word v x) = false
 is_of_place (Help h ins outs) = false
 is_of_place _ = true
 
+abbrev pub is_help : Mid → Bool
+is_help (Help h ins outs) = true
+is_help _ = false
+
 -- each call has its open Begins, and the innermost may go on where its instruction is one of these
 abbrev pub InnermostMayGoOn : (Mid → Bool) → MidCode → List Activation → List (List ℕ) → Type 0
 InnermostMayGoOn chosen c [] all = Unit {0}
 InnermostMayGoOn chosen c (a ∷ rest) [] = ⊥
 InnermostMayGoOn chosen c (a ∷ rest) (opens ∷ outer) = (i : Mid) → instruction c a ≡ Some i → chosen i ≡ true → MayGoOn c a opens (Some i)
 
+-- Begins and Ends nest, and ports are there
 abbrev pub StatementsNest : Type 0
 StatementsNest =
     (p : Program) → IsWellFormed p → (f : ℕ) (answers : ℕ → ℕ) (n : ℕ) →
     InnermostMayGoOn is_of_place (lowered p) (state_at (lowered p) f answers n) (opens_at (lowered p) f answers n)
+
+-- a Help that divides has a divisor other than 0
+abbrev pub DivisorsAreOther : Type 0
+DivisorsAreOther =
+    (p : Program) → IsWellFormed p → (f : ℕ) (answers : ℕ → ℕ) (n : ℕ) →
+    InnermostMayGoOn is_help (lowered p) (state_at (lowered p) f answers n) (opens_at (lowered p) f answers n)

@@ -1,10 +1,16 @@
 //! The rules of reached states that lowered programs keep.
 
-ghost use Rattle.lower_reached.specs.Laws.{StatementsNest};
+ghost use Rattle.lower_reached.specs.Laws.{DivisorsAreOther, StatementsNest};
 
 /// In each state that the machine reaches in the code of a well-formed program, from the start of any function and whatever it is
 /// answered: a Begin saves the status at an even place inside the frame, apart from those that are open, an End closes the last open
 /// Begin, no Begin is open at a Ret, and ports are those of the interrupt controller or of a device.
 pub fn statements_nest()
     ensures { StatementsNest }
+{}
+
+/// In each such state the divisor of a Help that divides is not 0: the code tests it in front, and faults, and the size of what two
+/// pointers point to is not 0.
+pub fn divisors_are_other()
+    ensures { DivisorsAreOther }
 {}

@@ -3,4 +3,4 @@
 
 mod laws;
 
-pub use laws::statements_nest;
+pub use laws::{divisors_are_other, statements_nest};
