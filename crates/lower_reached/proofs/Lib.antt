@@ -7,3 +7,4 @@ pub mod Divided
 pub mod Guards
 pub mod Guarded
 pub mod Divisors
+pub mod Actions

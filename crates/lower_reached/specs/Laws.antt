@@ -1,13 +1,18 @@
 -- The rules of reached states that lowered programs keep (own).
-use Rattle.std.specs.Prelude.{◌≡◌, ℕ, Bool, true, false, List, [], ◌∷◌, Some}
-use Rattle.nesc_core.specs.Plain.{Program}
+use Rattle.std.specs.Prelude.{◌≡◌, ℕ, ◌<◌, ◌^◌, Bool, true, false, List, [], ◌∷◌, Some, slice_get}
+use Rattle.nm_base.specs.declared.action.Action.{Action}
+use Rattle.nm_base.specs.declared.action.Action.TheVariants as action
+use Rattle.nesc_core.specs.Plain.{Body, Program}
+use Rattle.nesc_core.specs.Calls.{HasNoCycle}
 use Rattle.nesc_core.specs.WellFormed.{IsWellFormed}
 use Rattle.mid_code.specs.declared.instr.Mid.{Mid}
 use Rattle.mid_code.specs.declared.instr.Mid.TheVariants.{Load, Store, Peek, Poke, Help}
 use Rattle.mid_code.specs.declared.code.MidCode.{MidCode}
 use Rattle.mid_code.specs.Machine.{Activation, instruction}
-use Rattle.mid_code.specs.Reached.{MayGoOn, opens_at, state_at}
+use Rattle.mid_code.specs.Reached.{IsData, MayGoOn, opens_at, state_at}
+use Rattle.mid_code.specs.Runs.{AreWords}
 use Rattle.lower_stmt.specs.Bodies.{lowered}
+use Rattle.lower_stmt.specs.Correct.{IsTold, source}
 
 -- an instruction whose rule asks nothing of values
 abbrev pub is_of_place : Mid → Bool
@@ -21,6 +26,11 @@ is_of_place _ = true
 abbrev pub is_help : Mid → Bool
 is_help (Help h ins outs) = true
 is_help _ = false
+
+abbrev pub is_access : Mid → Bool
+is_access (Load is_word v x) = true
+is_access (Store is_word v x) = true
+is_access _ = false
 
 -- each call has its open Begins, and the innermost may go on where its instruction is one of these
 abbrev pub InnermostMayGoOn : (Mid → Bool) → MidCode → List Activation → List (List ℕ) → Type 0
@@ -39,3 +49,25 @@ abbrev pub DivisorsAreOther : Type 0
 DivisorsAreOther =
     (p : Program) → IsWellFormed p → (f : ℕ) (answers : ℕ → ℕ) (n : ℕ) →
     InnermostMayGoOn is_help (lowered p) (state_at (lowered p) f answers n) (opens_at (lowered p) f answers n)
+
+-- ---- accesses to memory
+
+abbrev pub IsOfData : Action → Type 0
+IsOfData (action.Load address is_word) = IsData is_word address
+IsOfData (action.Store address is_word v) = IsData is_word address
+IsOfData _ = Unit {0}
+
+abbrev pub AreOfData : List Action → Type 0
+AreOfData [] = Unit {0}
+AreOfData (a ∷ rest) = IsOfData a × AreOfData rest
+
+-- each access that a body without parameters does is to data
+pub record AccessesAreOfData (p : Program) (f : ℕ) : Type 0 where
+  pub each : (answers : List ℕ) → AreWords answers → (turns : ℕ) → AreOfData (source p f answers turns).actions
+
+-- where the body's accesses are to data, so are those of its function
+abbrev pub AccessesStay : Type 0
+AccessesStay =
+    (p : Program) → HasNoCycle p → IsWellFormed p → (f : ℕ) (b : Body) → slice_get p.bodies f ≡ Some b → b.params ≡ 0 → IsTold b.result → AccessesAreOfData p f →
+    (answers : ℕ → ℕ) → ((i : ℕ) → answers i < 2 ^ 16) → (n : ℕ) →
+    InnermostMayGoOn is_access (lowered p) (state_at (lowered p) f answers n) (opens_at (lowered p) f answers n)

@@ -1,6 +1,6 @@
 //! The rules of reached states that lowered programs keep.
 
-ghost use Rattle.lower_reached.specs.Laws.{DivisorsAreOther, StatementsNest};
+ghost use Rattle.lower_reached.specs.Laws.{AccessesStay, DivisorsAreOther, StatementsNest};
 
 /// In each state that the machine reaches in the code of a well-formed program, from the start of any function and whatever it is
 /// answered: a Begin saves the status at an even place inside the frame, apart from those that are open, an End closes the last open
@@ -13,4 +13,10 @@ pub fn statements_nest()
 /// pointers point to is not 0.
 pub fn divisors_are_other()
     ensures { DivisorsAreOther }
+{}
+
+/// Of a body without parameters whose result is told whole: where each Load and Store that the body does is to data, so is each that
+/// its function does in a state that the machine reaches.
+pub fn accesses_stay()
+    ensures { AccessesStay }
 {}
