@@ -1,13 +1,13 @@
 -- How many Begins are open at each place of code, where it is known at each label.
-use Rattle.std.proofs.Common.{◌≡◌, ℕ, zero, suc, ◌+◌, ◌*◌, ◌<◌, ◌≤◌, Bool, true, false, ◌&&◌, List, [], ◌∷◌, ◌++◌, drop, Option, Some, None, refl, sym, ap, ◌∙◌, subst, append_assoc, arith}
-use Rattle.std.specs.Prelude.{⊤, ◌==◌, nat_lt, slice_get, if◌then◌else◌}
+use Rattle.std.proofs.Common.{◌≡◌, ℕ, suc, ◌+◌, ◌*◌, ◌<◌, ◌≤◌, Bool, true, false, ◌&&◌, List, [], ◌∷◌, ◌++◌, drop, refl, sym, ap, ◌∙◌, subst, append_assoc, arith}
+use Rattle.std.specs.Prelude.{⊤, ◌==◌, nat_lt, if◌then◌else◌}
 use Rattle.std.proofs.lemmas.Bool.{eq-eqb, eqb-true, ltb-false, ltb-true}
 use Rattle.mid_code.specs.declared.instr.Mid.{Mid}
 use Rattle.mid_code.specs.declared.instr.Mid.TheVariants.{Set, Move, Bin, Carry, Load, Store, Peek, Poke, In, Out, Label, Jump, Branch, Call, Help, Ret, Begin, End, Post, Tick, Fault}
 use Rattle.mid_code.specs.Form.{one_more, times}
 use Rattle.mid_code.specs.Machine.{is_label, place_of}
 use Rattle.expr_emitter.specs.Laws.{HasLabels, NamesIn}
-use Rattle.lower_reached.proofs.Level.{Level, all_level, is_level}
+use Rattle.lower_reached.proofs.Level.{Level, all_level}
 
 -- the k-th Begin that is open saves at `start` + 2 * k, and so many are open at each label
 module _ (at_label : ℕ → ℕ) (start : ℕ) where

@@ -1,6 +1,6 @@
 -- Where code divides, it knows that the divisor is not 0.
 use Rattle.std.proofs.Common.{◌≡◌, ◌≢◌, ℕ, zero, suc, ◌+◌, ◌*◌, ◌/◌, ◌%◌, ◌<◌, ◌≤◌, Bool, true, false, not, ◌==◌, List, [], ◌∷◌, ◌++◌, map, Option, Some, None, refl, sym, ap, ◌∙◌, subst, arith}
-use Rattle.std.specs.Prelude.{⊤, ℤ, bit_or, if◌then◌else◌}
+use Rattle.std.specs.Prelude.{ℤ, bit_or, if◌then◌else◌}
 use Rattle.std.proofs.lemmas.Bool.{eq-eqb, ne_eqb}
 use Rattle.nm_base.specs.declared.int_type.IntType.{IntType}
 use Rattle.nm_base.specs.declared.int_type.IntType.TheVariants.{I8, U8, I16, U16, I32, U32}
@@ -9,7 +9,7 @@ use Rattle.nesc_core.specs.declared.tree.UnOp.TheVariants as un
 use Rattle.nesc_core.specs.declared.tree.BinOp.{BinOp}
 use Rattle.nesc_core.specs.declared.tree.BinOp.TheVariants as bin
 use Rattle.mid_code.specs.declared.instr.Mid.{Mid}
-use Rattle.mid_code.specs.declared.instr.Mid.TheVariants.{Bin, Branch, Fault, Help, Jump, Label, Set}
+use Rattle.mid_code.specs.declared.instr.Mid.TheVariants.{Branch, Help, Jump, Label, Set}
 use Rattle.mid_code.specs.declared.help.HelpOp.{HelpOp}
 use Rattle.mid_code.specs.declared.help.HelpOp.TheVariants as help
 use Rattle.mid_code.specs.declared.instr.Op.{Op}
@@ -18,16 +18,16 @@ use Rattle.mid_code.specs.declared.instr.Test.{Test}
 use Rattle.mid_code.specs.declared.instr.Test.TheVariants.{Eq, Ne}
 use Rattle.mid_code.specs.Help.{is_wide, number_of_help, operation_at, type_at}
 use Rattle.mid_code.specs.Reached.{DividesByOther}
-use Rattle.mid_code.specs.Words.{holds, joined}
+use Rattle.mid_code.specs.Words.{joined}
 use Rattle.mid_code.specs.Machine.{put}
 use Rattle.mid_code.proofs.Written.{put_other, put_same}
 use Rattle.lower_expr.specs.declared.spot.Regs.{Regs}
 use Rattle.lower_expr.specs.declared.spot.Spot.{Spot}
 use Rattle.lower_expr.specs.declared.spot.Spot.TheVariants.{Values, Frame}
 use Rattle.lower_expr.specs.Held.{is_signed}
-use Rattle.lower_expr.specs.Pieces.{binary_code, bits_code, bound_code, const_code, convert_code, count_code, distance_code, divisor_code, element_code, equal_code, fit_code, high_code, index_bound, move_code, offset_code, order_code, product_code, scaled_code, shift_code, sum_code, truth_code, unary_code, values_at, zero_code}
+use Rattle.lower_expr.specs.Pieces.{binary_code, bits_code, bound_code, const_code, convert_code, count_code, distance_code, divisor_code, element_code, equal_code, fit_code, high_code, index_bound, move_code, offset_code, order_code, product_code, scaled_code, sum_code, truth_code, unary_code, values_at, zero_code}
 use Rattle.lower_expr.specs.Code.{Kind, InValues, InFrame, InMemory, address_code, fetch_code, keep_code, load_code, local_code, peek_code, put_code, take_code}
-use Rattle.lower_reached.proofs.Facts.{Are, Divides, Fact, Holds, Keeps, MayStand, Plain, either, either_with, if_keeps, is, keeps_both, nothing, other, plain}
+use Rattle.lower_reached.proofs.Facts.{Divides, Fact, Holds, Keeps, MayStand, Plain, either, either_with, is, nothing, other, plain}
 
 -- ---- divisors
 
@@ -46,8 +46,14 @@ some_wide (suc x) y v z e q h = omega arith
 -- a check is no operation
 no_type : (n : ℕ) → 6 ≤ n → type_at n ≡ None
 no_type n le =
-    rw (ne_eqb n 0 (λ e. omega (arith, e, le)), ne_eqb n 1 (λ e. omega (arith, e, le)), ne_eqb n 2 (λ e. omega (arith, e, le)), ne_eqb n 3 (λ e. omega (arith, e, le)), ne_eqb n 4 (λ e. omega (arith, e, le)),
-    ne_eqb n 5 (λ e. omega (arith, e, le))) refl
+    rw (
+      ne_eqb n 0 (λ e. omega (arith, e, le)),
+      ne_eqb n 1 (λ e. omega (arith, e, le)),
+      ne_eqb n 2 (λ e. omega (arith, e, le)),
+      ne_eqb n 3 (λ e. omega (arith, e, le)),
+      ne_eqb n 4 (λ e. omega (arith, e, le)),
+      ne_eqb n 5 (λ e. omega (arith, e, le)),
+    ) refl
 
 pub check_divides : (k : ℕ) (ins : List ℕ) (values : ℕ → ℕ) → Divides (64 + k) ins values
 check_divides k ins values = subst (λ o. DividesByOther o (operation_at ((64 + k) % 8)) (map values ins)) (sym (no_type ((64 + k) / 8) (omega arith))) tt
@@ -143,20 +149,31 @@ module _ (at_label : ℕ → Fact) where
 
   divisor_keeps : (wide : Bool) (o : HelpOp) (t : IntType) (r l : ℕ) → is_wide t ≡ wide → at_label l ≡ other (values_at wide (r + 2)) → K (divisor_code wide r l ++ product_code o t r)
   divisor_keeps false o t r l w e = record {
-    over = λ u h.
-        (is (r + 4) 0, (λ values q. put_same values (r + 4) 0),
-        ((λ values q t1. subst (λ f. Holds f values) (sym e) (some_narrow (values (r + 2)) (values (r + 4)) q t1)),
-        (at_label l, ((λ values q. q), ((λ values q. by_other o t r values (narrow values (subst (λ f. Holds f values) e q))), h)))));
+    over = λ u h. (
+      is (r + 4) 0,
+      (λ values q. put_same values (r + 4) 0),
+      (
+        (λ values q t1. subst (λ f. Holds f values) (sym e) (some_narrow (values (r + 2)) (values (r + 4)) q t1)),
+        (at_label l, ((λ values q. q), ((λ values q. by_other o t r values (narrow values (subst (λ f. Holds f values) e q))), h))),
+      ),
+    );
   }
     where
       narrow : (values : ℕ → ℕ) → 0 < joined (map values (values_at false (r + 2))) → 0 < joined (map values (values_at (is_wide t) (r + 2)))
       narrow values q = subst (λ b. 0 < joined (map values (values_at b (r + 2)))) (sym w) q
   divisor_keeps true o t r l w e = record {
-    over = λ u h.
-        (either (r + 4) (r + 2) (r + 3), (λ values q. or_is values),
-        (either_with (r + 4) (r + 2) (r + 3) (r + 5), (λ values q. (stays values q, put_same values (r + 5) 0)),
-        ((λ values q t1. subst (λ f. Holds f values) (sym e) (some_pair values q t1)),
-        (at_label l, ((λ values q. q), ((λ values q. by_other o t r values (pair values (subst (λ f. Holds f values) e q))), h))))));
+    over = λ u h. (
+      either (r + 4) (r + 2) (r + 3),
+      (λ values q. or_is values),
+      (
+        either_with (r + 4) (r + 2) (r + 3) (r + 5),
+        (λ values q. (stays values q, put_same values (r + 5) 0)),
+        (
+          (λ values q t1. subst (λ f. Holds f values) (sym e) (some_pair values q t1)),
+          (at_label l, ((λ values q. q), ((λ values q. by_other o t r values (pair values (subst (λ f. Holds f values) e q))), h))),
+        ),
+      ),
+    );
   }
     where
       or_is : (values : ℕ → ℕ) → put values (r + 4) (bit_or (values (r + 2)) (values (r + 3))) (r + 4) ≡ bit_or (put values (r + 4) (bit_or (values (r + 2)) (values (r + 3))) (r + 2)) (put values (r + 4) (bit_or (values (r + 2)) (values (r + 3))) (r + 3))

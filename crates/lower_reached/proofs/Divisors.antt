@@ -1,6 +1,6 @@
 -- In each state that is reached a Help that divides has a divisor.
-use Rattle.std.proofs.Common.{◌≡◌, ℕ, zero, suc, ◌+◌, ◌<◌, ◌≤◌, Bool, true, false, List, [], ◌∷◌, ◌++◌, drop, All, Option, Some, None, refl, sym, ap, ◌∙◌, subst, arith}
-use Rattle.std.specs.Prelude.{⊤, map, slice_get, slice_index_or, if◌then◌else◌}
+use Rattle.std.proofs.Common.{◌≡◌, ℕ, zero, suc, ◌+◌, Bool, true, false, List, [], ◌∷◌, ◌++◌, drop, All, Option, Some, None, refl, sym, subst}
+use Rattle.std.specs.Prelude.{⊤, map, slice_index_or, if◌then◌else◌}
 use Rattle.std.proofs.lemmas.List.Elements.{All-head, All-tail}
 use Rattle.nesc_core.specs.Plain.{Ty, Body, Program}
 use Rattle.nesc_core.specs.WellFormed.{IsBody, IsWellFormed, by_return}
@@ -10,9 +10,9 @@ use Rattle.mid_code.specs.declared.code.MidCode.{MidCode}
 use Rattle.mid_code.specs.Help.{helped}
 use Rattle.mid_code.specs.Words.{holds}
 use Rattle.mid_code.specs.Machine.{Activation, at_place, fn_of, help_to, instruction, moved, no_fn, onward, perform, place_of, step, take_back}
-use Rattle.mid_code.specs.Reached.{MayGoOn, innermost_instruction, opens_at, state_at}
+use Rattle.mid_code.specs.Reached.{MayGoOn, opens_at, state_at}
 use Rattle.lower_expr.specs.Code.{taken_at}
-use Rattle.lower_stmt.specs.Code.{WayOut, breaking, continuing, returning, leads, nothing_code, stmt_code}
+use Rattle.lower_stmt.specs.Code.{WayOut, breaking, continuing, returning, leads, nothing_code}
 use Rattle.lower_stmt.specs.Bodies.{base_of, body_code, checks_of, lowered, mid_fn_of, spots_of, ways_of}
 use Rattle.lower_stmt.proofs.Leaving.{leads_allowed}
 use Rattle.lower_reached.specs.Laws.{InnermostMayGoOn, is_help, is_of_place}

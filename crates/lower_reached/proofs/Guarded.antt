@@ -1,6 +1,6 @@
 -- At each label of a statement's own nothing is known.
-use Rattle.std.proofs.Common.{◌≡◌, ℕ, zero, suc, ◌+◌, ◌-◌, ◌*◌, ◌<◌, ◌≤◌, Bool, true, false, List, [], ◌∷◌, ◌++◌, take, drop, All, Option, Some, None, refl, sym, ap, ◌∙◌, subst, arith}
-use Rattle.std.specs.Prelude.{⊤, ℤ, pos, ◌||◌, nat_lt, slice_get, slice_index_or, if◌then◌else◌}
+use Rattle.std.proofs.Common.{◌≡◌, ℕ, zero, suc, ◌+◌, ◌-◌, ◌*◌, ◌<◌, ◌≤◌, Bool, true, false, List, [], ◌∷◌, ◌++◌, take, drop, All, Option, Some, None, refl, ap, ◌∙◌, arith}
+use Rattle.std.specs.Prelude.{⊤, ℤ, pos, nat_lt, slice_get, slice_index_or, if◌then◌else◌}
 use Rattle.std.specs.Ordering.{int_eq}
 use Rattle.std.proofs.lemmas.List.Elements.{All-head, All-tail}
 use Rattle.nm_base.specs.declared.int_type.IntType.{IntType}
@@ -15,7 +15,7 @@ use Rattle.core_meaning.specs.Layout.{size_of}
 use Rattle.core_meaning.specs.Flow.{start_of_default}
 use Rattle.core_meaning.specs.Work.{number_of}
 use Rattle.mid_code.specs.declared.instr.Mid.{Mid}
-use Rattle.mid_code.specs.declared.instr.Mid.TheVariants.{Label, Jump, Begin, End, Ret, Tick}
+use Rattle.mid_code.specs.declared.instr.Mid.TheVariants.{Label, Jump, End, Tick}
 use Rattle.mid_code.specs.declared.instr.Test.TheVariants.{Eq, Ne}
 use Rattle.mid_code.specs.Help.{is_wide}
 use Rattle.lower_expr.specs.declared.spot.Regs.{Regs}

@@ -1,6 +1,6 @@
 -- At each label of an expression nothing is known, but behind the test of a divisor that it is not 0.
-use Rattle.std.proofs.Common.{◌≡◌, ℕ, suc, ◌+◌, ◌*◌, ◌%◌, ◌<◌, ◌≤◌, Bool, true, false, ◌==◌, List, [], ◌∷◌, ◌++◌, take, Option, Some, None, refl, sym, ap, ◌∙◌, subst, arith}
-use Rattle.std.specs.Prelude.{⊤, nat_lt, slice_get, if◌then◌else◌}
+use Rattle.std.proofs.Common.{◌≡◌, ℕ, ◌+◌, ◌%◌, ◌<◌, ◌≤◌, Bool, ◌==◌, List, [], ◌∷◌, ◌++◌, take, Option, Some, None, refl, ap, ◌∙◌, arith}
+use Rattle.std.specs.Prelude.{nat_lt, slice_get, if◌then◌else◌}
 use Rattle.std.proofs.lemmas.Bool.{eq-eqb, ne_eqb}
 use Rattle.nm_base.specs.declared.int_type.IntType.{IntType}
 use Rattle.nm_base.specs.declared.int_type.IntType.TheVariants.{I8, U8, I16, U16, I32, U32}
@@ -8,12 +8,12 @@ use Rattle.nesc_core.specs.declared.tree.BinOp.{BinOp}
 use Rattle.nesc_core.specs.Plain.{Ty, Expr, Exprs, no_exprs, more_exprs, Field, Place, Body, Program}
 use Rattle.nesc_core.specs.Plain as plain
 use Rattle.nesc_core.specs.PlaceTypes.{place_type, element_of, count_of}
-use Rattle.nesc_core.specs.Size.{AreSized, IsSized, layout_of}
+use Rattle.nesc_core.specs.Size.{IsSized, layout_of}
 use Rattle.nesc_core.specs.Typing.{AllHave, Has, IsCallable, IsPlace, IsStepped}
 use Rattle.core_meaning.specs.Layout.{size_of}
 use Rattle.core_meaning.specs.Work.{number_of}
 use Rattle.mid_code.specs.declared.instr.Mid.{Mid}
-use Rattle.mid_code.specs.declared.instr.Mid.TheVariants.{Bin, Call, Help, In, Jump, Label, Out, Post, Set, Tick}
+use Rattle.mid_code.specs.declared.instr.Mid.TheVariants.{Jump, Label, Post, Set}
 use Rattle.mid_code.specs.declared.instr.Test.TheVariants.{Eq, Ne}
 use Rattle.mid_code.specs.Help.{is_wide}
 use Rattle.lower_expr.specs.declared.spot.Spot.{Spot}
@@ -21,7 +21,7 @@ use Rattle.lower_expr.specs.Held.{held}
 use Rattle.lower_expr.specs.Pieces.{binary_code, convert_code, move_code, truth_code, zero_code}
 use Rattle.lower_expr.specs.Code.{Kind, all_labels, args_code, check_of, expr_code, fetch_code, kind_of, labels, place_code, place_labels, put_code}
 use Rattle.lower_form.proofs.Fits.{second_some}
-use Rattle.lower_reached.proofs.Facts.{Are, Fact, Keeps, MayStand, first, jump_keeps, keeps_both, label_keeps, nothing, second}
+use Rattle.lower_reached.proofs.Facts.{Are, Fact, Keeps, first, jump_keeps, keeps_both, label_keeps, nothing, second}
 use Rattle.lower_reached.proofs.Divided.{IsPlain, address_plain, binary_keeps, both_plain, check_divides, const_plain, convert_plain, distance_keeps, element_plain, fetch_plain, fit_plain, guard, local_plain, move_plain, of_plain, offset_plain, put_plain, truth_plain, unary_plain, zero_plain}
 
 -- ---- what is known at a label

@@ -13,7 +13,7 @@ use Rattle.nesc_core.specs.PlaceTypes.{place_type, element_of, count_of}
 use Rattle.core_meaning.specs.Layout.{size_of}
 use Rattle.core_meaning.specs.Work.{number_of}
 use Rattle.mid_code.specs.declared.instr.Mid.{Mid}
-use Rattle.mid_code.specs.declared.instr.Mid.TheVariants.{Bin, Begin, End, Help, Jump, Label, Post, Ret, Set}
+use Rattle.mid_code.specs.declared.instr.Mid.TheVariants.{Begin, End, Jump, Label, Post, Ret, Set}
 use Rattle.mid_code.specs.declared.help.HelpOp.{HelpOp}
 use Rattle.mid_code.specs.declared.help.HelpOp.TheVariants as help
 use Rattle.mid_code.specs.declared.instr.Op.{Op}

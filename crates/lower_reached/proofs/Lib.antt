@@ -8,3 +8,4 @@ pub mod Guards
 pub mod Guarded
 pub mod Divisors
 pub mod Actions
+pub mod Together

@@ -1,6 +1,6 @@
 -- The code of statements may stand where as many Begins are open as its atomic statements say.
 use Rattle.std.proofs.Common.{◌≡◌, ℕ, zero, suc, ◌+◌, ◌-◌, ◌*◌, ◌%◌, ◌<◌, ◌≤◌, Bool, true, false, List, [], ◌∷◌, ◌++◌, All, Option, Some, None, refl, sym, ap, ◌∙◌, subst, append_assoc, arith}
-use Rattle.std.specs.Prelude.{⊤, ℤ, pos, ◌==◌, ◌||◌, nat_lt, slice_get, slice_index_or, if◌then◌else◌}
+use Rattle.std.specs.Prelude.{ℤ, pos, ◌==◌, nat_lt, slice_get, slice_index_or, if◌then◌else◌}
 use Rattle.std.specs.Ordering.{int_eq}
 use Rattle.std.proofs.lemmas.Bool.{le-ltb, lt-ltb}
 use Rattle.std.proofs.lemmas.List.Elements.{All-head, All-tail}
@@ -15,7 +15,7 @@ use Rattle.core_meaning.specs.Layout.{size_of}
 use Rattle.core_meaning.specs.Flow.{start_of_default}
 use Rattle.core_meaning.specs.Work.{number_of}
 use Rattle.mid_code.specs.declared.instr.Mid.{Mid}
-use Rattle.mid_code.specs.declared.instr.Mid.TheVariants.{Set, Bin, Poke, Label, Jump, Branch, Begin, End, Ret, Tick}
+use Rattle.mid_code.specs.declared.instr.Mid.TheVariants.{Label, Jump, End, Tick}
 use Rattle.mid_code.specs.declared.instr.Test.{Test}
 use Rattle.mid_code.specs.declared.instr.Test.TheVariants.{Eq, Ne}
 use Rattle.mid_code.specs.Help.{is_wide}
@@ -26,11 +26,11 @@ use Rattle.lower_expr.specs.Held.{held}
 use Rattle.lower_expr.specs.Pieces.{const_code, zero_code}
 use Rattle.lower_expr.specs.Code.{Kind, InValues, InFrame, InMemory, all_labels, expr_code, is_void, keep_code, kind_of_spot, labels, local_code, put_code}
 use Rattle.expr_emitter.proofs.Labels.{has_labels}
-use Rattle.lower_stmt.specs.Code.{WayOut, Ways, breaking, continuing, returning, back, case_code, cases_code, clear_code, clears_code, enter_code, exit_code, exits_code, here_gives, in_atomic, in_here, in_loop, in_switch, is_return, kept_code, label_of, leads, maybe_labels, nothing_code, result_code, returned_code, same_code, some_leads, step_code, stmt_code, stmt_labels, stmts_code, stmts_labels, switch_code, way_out, zero_local_code, zero_regs_code}
+use Rattle.lower_stmt.specs.Code.{WayOut, Ways, breaking, continuing, returning, back, case_code, cases_code, clear_code, clears_code, enter_code, exit_code, here_gives, in_atomic, in_here, in_loop, in_switch, kept_code, label_of, leads, maybe_labels, nothing_code, result_code, returned_code, same_code, some_leads, step_code, stmt_code, stmt_labels, stmts_code, stmts_labels, switch_code, way_out, zero_local_code, zero_regs_code}
 use Rattle.lower_stmt.proofs.Cases.{default_inside}
 use Rattle.lower_stmt.proofs.Leaving.{or_first, or_second}
 use Rattle.lower_reached.proofs.Level.{expr_level}
-use Rattle.lower_reached.proofs.Depths.{AreAt, Keeps, MayStand, if_keeps, keeps_both, keeps_nothing, labels_keep}
+use Rattle.lower_reached.proofs.Depths.{AreAt, Keeps, MayStand, if_keeps, keeps_both, labels_keep}
 
 -- ---- how many Begins are open at a label
 

@@ -1,5 +1,5 @@
 -- In each state that is reached the open Begins are those that the places of the calls say.
-use Rattle.std.proofs.Common.{◌≡◌, ◌⊎◌, inr, ℕ, zero, suc, ◌+◌, ◌*◌, ◌<◌, ◌≤◌, Bool, true, false, List, [], ◌∷◌, ◌++◌, drop, All, Option, Some, None, refl, sym, ap, ◌∙◌, subst, add-one, arith}
+use Rattle.std.proofs.Common.{◌≡◌, inr, ℕ, zero, suc, ◌+◌, ◌*◌, ◌≤◌, Bool, true, false, List, [], ◌∷◌, ◌++◌, drop, All, Option, Some, None, refl, sym, ap, ◌∙◌, subst, add-one, arith}
 use Rattle.std.specs.Prelude.{⊤, map, slice_get, slice_index_or, if◌then◌else◌}
 use Rattle.std.proofs.lemmas.List.Elements.{All-cons, All-head, All-nil, All-tail}
 use Rattle.nesc_core.specs.Plain.{Ty, Body, Program}
@@ -10,10 +10,9 @@ use Rattle.mid_code.specs.declared.code.MidFn.{MidFn}
 use Rattle.mid_code.specs.declared.code.MidCode.{MidCode}
 use Rattle.mid_code.specs.Help.{helped}
 use Rattle.mid_code.specs.Words.{holds}
-use Rattle.mid_code.specs.Machine.{Activation, at_place, entry, fn_of, help_to, instruction, moved, no_fn, onward, perform, place_of, step, take_back, write_all}
+use Rattle.mid_code.specs.Machine.{Activation, at_place, fn_of, help_to, instruction, moved, no_fn, onward, perform, place_of, step, take_back}
 use Rattle.mid_code.specs.Reached.{AreApart, LastIs, MayGoOn, innermost_instruction, opens_at, opens_behind, state_at}
 use Rattle.lower_expr.specs.Code.{taken_at}
-use Rattle.lower_expr.proofs.Called.{body_formed}
 use Rattle.lower_stmt.specs.Code.{WayOut, breaking, continuing, returning, leads, nothing_code, stmt_code}
 use Rattle.lower_stmt.specs.Bodies.{all_bytes, base_of, body_code, checks_of, lowered, mid_fn_of, spots_of, ways_of}
 use Rattle.lower_stmt.proofs.Leaving.{leads_allowed}
@@ -21,7 +20,7 @@ use Rattle.lower_form.specs.Instructions.{IsSound}
 use Rattle.lower_form.proofs.Sound.{are_sound}
 use Rattle.lower_reached.specs.Laws.{InnermostMayGoOn, is_of_place}
 use Rattle.lower_reached.proofs.Depths.{MayStand, at_place_of}
-use Rattle.lower_reached.proofs.Nested.{WaysAre, WayIs, depth, nothing_keeps, stmt_keeps}
+use Rattle.lower_reached.proofs.Nested.{WayIs, depth, nothing_keeps, stmt_keeps}
 
 -- ---- lists
 

@@ -1,5 +1,5 @@
 -- The rules of reached states that lowered programs keep (own).
-use Rattle.std.specs.Prelude.{◌≡◌, ℕ, ◌<◌, ◌^◌, Bool, true, false, List, [], ◌∷◌, Some, slice_get}
+use Rattle.std.specs.Prelude.{◌≡◌, ℕ, ◌<◌, ◌^◌, Bool, true, false, List, [], ◌∷◌, length, Some, slice_get}
 use Rattle.nm_base.specs.declared.action.Action.{Action}
 use Rattle.nm_base.specs.declared.action.Action.TheVariants as action
 use Rattle.nesc_core.specs.Plain.{Body, Program}
@@ -8,8 +8,8 @@ use Rattle.nesc_core.specs.WellFormed.{IsWellFormed}
 use Rattle.mid_code.specs.declared.instr.Mid.{Mid}
 use Rattle.mid_code.specs.declared.instr.Mid.TheVariants.{Load, Store, Peek, Poke, Help}
 use Rattle.mid_code.specs.declared.code.MidCode.{MidCode}
-use Rattle.mid_code.specs.Machine.{Activation, instruction}
-use Rattle.mid_code.specs.Reached.{IsData, MayGoOn, opens_at, state_at}
+use Rattle.mid_code.specs.Machine.{Activation, fn_of, instruction}
+use Rattle.mid_code.specs.Reached.{IsData, KeepsForm, MayGoOn, opens_at, state_at}
 use Rattle.mid_code.specs.Runs.{AreWords}
 use Rattle.lower_stmt.specs.Bodies.{lowered}
 use Rattle.lower_stmt.specs.Correct.{IsTold, source}
@@ -32,23 +32,28 @@ is_access (Load is_word v x) = true
 is_access (Store is_word v x) = true
 is_access _ = false
 
+abbrev pub is_of_frame : Mid → Bool
+is_of_frame (Peek is_word v x) = true
+is_of_frame (Poke is_word v x) = true
+is_of_frame _ = false
+
 -- each call has its open Begins, and the innermost may go on where its instruction is one of these
 abbrev pub InnermostMayGoOn : (Mid → Bool) → MidCode → List Activation → List (List ℕ) → Type 0
 InnermostMayGoOn chosen c [] all = Unit {0}
 InnermostMayGoOn chosen c (a ∷ rest) [] = ⊥
 InnermostMayGoOn chosen c (a ∷ rest) (opens ∷ outer) = (i : Mid) → instruction c a ≡ Some i → chosen i ≡ true → MayGoOn c a opens (Some i)
 
+-- in each state that is reached from the start of a function
+abbrev pub AlwaysMayGoOn : (Mid → Bool) → MidCode → Type 0
+AlwaysMayGoOn chosen c = (f : ℕ) (answers : ℕ → ℕ) (n : ℕ) → InnermostMayGoOn chosen c (state_at c f answers n) (opens_at c f answers n)
+
 -- Begins and Ends nest, and ports are there
 abbrev pub StatementsNest : Type 0
-StatementsNest =
-    (p : Program) → IsWellFormed p → (f : ℕ) (answers : ℕ → ℕ) (n : ℕ) →
-    InnermostMayGoOn is_of_place (lowered p) (state_at (lowered p) f answers n) (opens_at (lowered p) f answers n)
+StatementsNest = (p : Program) → IsWellFormed p → AlwaysMayGoOn is_of_place (lowered p)
 
 -- a Help that divides has a divisor other than 0
 abbrev pub DivisorsAreOther : Type 0
-DivisorsAreOther =
-    (p : Program) → IsWellFormed p → (f : ℕ) (answers : ℕ → ℕ) (n : ℕ) →
-    InnermostMayGoOn is_help (lowered p) (state_at (lowered p) f answers n) (opens_at (lowered p) f answers n)
+DivisorsAreOther = (p : Program) → IsWellFormed p → AlwaysMayGoOn is_help (lowered p)
 
 -- ---- accesses to memory
 
@@ -71,3 +76,15 @@ AccessesStay =
     (p : Program) → HasNoCycle p → IsWellFormed p → (f : ℕ) (b : Body) → slice_get p.bodies f ≡ Some b → b.params ≡ 0 → IsTold b.result → AccessesAreOfData p f →
     (answers : ℕ → ℕ) → ((i : ℕ) → answers i < 2 ^ 16) → (n : ℕ) →
     InnermostMayGoOn is_access (lowered p) (state_at (lowered p) f answers n) (opens_at (lowered p) f answers n)
+
+-- ---- all rules
+
+-- in each state that is reached from the start of a function without parameters
+abbrev pub MayGoOnWhere : (Mid → Bool) → MidCode → Type 0
+MayGoOnWhere chosen c =
+    (f : ℕ) → f < length c.fns → (fn_of c f).params ≡ [] → (answers : ℕ → ℕ) → ((i : ℕ) → answers i < 2 ^ 16) → (n : ℕ) →
+    InnermostMayGoOn chosen c (state_at c f answers n) (opens_at c f answers n)
+
+-- what is asked of accesses to memory and to frames is all that is left of the rules
+abbrev pub AccessesAreLeft : Type 0
+AccessesAreLeft = (p : Program) → IsWellFormed p → MayGoOnWhere is_access (lowered p) → MayGoOnWhere is_of_frame (lowered p) → KeepsForm (lowered p)

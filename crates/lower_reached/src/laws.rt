@@ -1,6 +1,6 @@
 //! The rules of reached states that lowered programs keep.
 
-ghost use Rattle.lower_reached.specs.Laws.{AccessesStay, DivisorsAreOther, StatementsNest};
+ghost use Rattle.lower_reached.specs.Laws.{AccessesAreLeft, AccessesStay, DivisorsAreOther, StatementsNest};
 
 /// In each state that the machine reaches in the code of a well-formed program, from the start of any function and whatever it is
 /// answered: a Begin saves the status at an even place inside the frame, apart from those that are open, an End closes the last open
@@ -19,4 +19,9 @@ pub fn divisors_are_other()
 /// its function does in a state that the machine reaches.
 pub fn accesses_stay()
     ensures { AccessesStay }
+{}
+
+/// The code of a well-formed program keeps all rules of reached states where its Loads and Stores, Peeks and Pokes keep theirs.
+pub fn accesses_are_left()
+    ensures { AccessesAreLeft }
 {}

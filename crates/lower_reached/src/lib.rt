@@ -3,4 +3,4 @@
 
 mod laws;
 
-pub use laws::{accesses_stay, divisors_are_other, statements_nest};
+pub use laws::{accesses_are_left, accesses_stay, divisors_are_other, statements_nest};
