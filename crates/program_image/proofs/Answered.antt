@@ -1,5 +1,5 @@
 -- Open code is answered by words.
-use Rattle.std.proofs.Common.{◌≡◌, ℕ, suc, ◌+◌, ◌*◌, ◌/◌, ◌%◌, ◌<◌, ◌≤◌, ◌==◌, Bool, true, false, cond, List, [], ◌∷◌, ◌++◌, length, refl, sym, ap, subst, ◌∙◌, arith, append_assoc, append-nil, length-append}
+use Rattle.std.proofs.Common.{◌≡◌, ℕ, ◌+◌, ◌%◌, ◌<◌, ◌≤◌, ◌==◌, Bool, true, false, cond, List, [], ◌∷◌, ◌++◌, length, refl, sym, ap, subst, arith, append_assoc, append-nil, length-append}
 use Rattle.std.specs.Prelude.{◌&&◌, nat_le, nat_lt}
 use Rattle.std.specs.List.{AllByRecursion}
 use Rattle.std.proofs.lemmas.Bool.Decides.{nat_tests}
@@ -7,7 +7,6 @@ use Rattle.nm_base.specs.declared.action.Action.{Action}
 use Rattle.nm_base.specs.declared.action.Action.TheVariants as action
 use Rattle.nm_base.specs.Behaviour.{Performed}
 use Rattle.msp430_cpu.specs.Cpu.{Cpu, even, changed_at}
-use Rattle.msp430_cpu.specs.Exec.{Joined}
 use Rattle.msp430_cpu.specs.Memory.{byte_at, is_code, is_port, is_ram, with_ports, with_ram, with_word_at, word_at}
 use Rattle.mid_code.specs.Runs.{AreWords}
 use Rattle.open_law.specs.Open.{Code, Done, IsMoment, IsOpenCode, Logged, Moment, Open, address_of, answers_of, disturbed, doing, instruction, is_data, is_over, joined_now, logged_bus, logged_read, logged_write, open_all, open_start, open_step, silent, went}

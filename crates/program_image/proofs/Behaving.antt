@@ -1,5 +1,5 @@
 -- Code that meets the open law of what it does meets that of what this behaves as.
-use Rattle.std.proofs.Common.{◌≡◌, ◌⊎◌, ℕ, ◌+◌, ◌-◌, ◌≤◌, true, false, List, [], ◌∷◌, ◌++◌, sym, ap, subst, ◌∙◌, arith, append_assoc}
+use Rattle.std.proofs.Common.{◌≡◌, ℕ, ◌+◌, ◌-◌, ◌≤◌, true, false, List, ◌∷◌, ◌++◌, sym, ap, subst, ◌∙◌, arith, append_assoc}
 use mathlib.Core.Logic.{inl, inr}
 use Rattle.nm_base.specs.Lists.{IsPrefixOf}
 use Rattle.nm_base.specs.declared.action.Action.{Action}

@@ -19,14 +19,14 @@ use Rattle.mid_code.specs.declared.code.MidFn.{MidFn}
 use Rattle.mid_code.specs.declared.help.HelpOp.{HelpOp}
 use Rattle.mid_code.specs.declared.help.HelpOp.TheVariants.{Mul, Div, Rem, Shl, Shr}
 use Rattle.mid_code.specs.Help.{is_wide, operation_at, type_at}
-use Rattle.mid_code.specs.Machine.{fn_of, no_fn}
+use Rattle.mid_code.specs.Machine.{no_fn}
 use Rattle.lower_expr.specs.Pieces.{values_at}
 use Rattle.lower_stmt.specs.Bodies.{all_values, base_of, checks_of, lowered, mid_fn_of, params_from, values_of}
 use Rattle.lower_pace.specs.Pace.{own_of}
 use Rattle.lower_pace.proofs.Bodies.{fn_some}
 use Rattle.msp_select.specs.Frames.{is_among, others_below, own_bytes}
 use Rattle.msp_select.specs.Laid.{parts}
-use Rattle.msp_select.specs.Select.{Part, entry_of, items_of as items_of_parts, zero_loop, zeros}
+use Rattle.msp_select.specs.Select.{Part, items_of as items_of_parts, zero_loop, zeros}
 use Rattle.msp_runtime.specs.Code.{routine_items}
 use Rattle.msp_runtime.specs.Routines.{code_at, code_for, code_of}
 use Rattle.program_image.specs.Image.{functions_of, homes_of}

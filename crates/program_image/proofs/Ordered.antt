@@ -1,5 +1,5 @@
 -- Code in the order of an image stands as the image's law asks.
-use Rattle.std.proofs.Common.{◌≡◌, ℕ, suc, ◌+◌, ◌<◌, ◌≤◌, List, ◌∷◌, ◌++◌, length, map, sym, ap, subst, ◌∙◌, arith, length-append}
+use Rattle.std.proofs.Common.{◌≡◌, ℕ, suc, ◌+◌, ◌<◌, List, ◌++◌, length, map, sym, ap, ◌∙◌, arith, length-append}
 use Rattle.std.specs.List.{range_with_len}
 use Rattle.std.specs.Prelude.{slice_index_or}
 use Rattle.std.proofs.lemmas.List.{get_or-append-add, get_or_append_left}
@@ -7,16 +7,10 @@ use Rattle.std.proofs.lemmas.List.FromFn.{get_or-map-range_with_len, length-map-
 use Rattle.nesc_core.specs.Plain.{Program}
 use Rattle.msp_isa.specs.declared.code.CodeFn.{CodeFn}
 use Rattle.msp_isa.specs.Stands.{items_of, no_code}
-use Rattle.lower_stmt.specs.Bodies.{lowered}
-use Rattle.lower_pace.specs.Pace.{own_of}
-use Rattle.msp_select.specs.Laid.{parts}
-use Rattle.msp_select.specs.Select.{items_of as items_of_parts}
-use Rattle.msp_runtime.specs.Code.{routine_items}
-use Rattle.msp_runtime.specs.Emitted.{code_fn, operation_fns}
+use Rattle.msp_runtime.specs.Emitted.{code_fn}
 use Rattle.msp_runtime.specs.Routines.{code_at}
-use Rattle.program_image.specs.Image.{IsProgramImage, functions_of, homes_of}
 use Rattle.program_image.proofs.Vectors.{line_leads, reset_leads}
-use Rattle.program_image.specs.Order.{IsOrdered, OrderedCodeStands, image_code, line_of, pieces_of, reset_place}
+use Rattle.program_image.specs.Order.{OrderedCodeStands, image_code, line_of, pieces_of, reset_place}
 
 abbrev operation_code : ℕ → CodeFn
 operation_code h = code_fn (code_at h)

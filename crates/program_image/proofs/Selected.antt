@@ -1,5 +1,5 @@
 -- The functions of a program's boot body and handlers meet selection's premises.
-use Rattle.std.proofs.Common.{◌≡◌, ◌⊎◌, ℕ, zero, suc, ◌+◌, ◌-◌, ◌*◌, ◌/◌, ◌%◌, ◌<◌, ◌≤◌, Bool, true, false, cond, nat_lt, List, [], ◌∷◌, length, Option, Some, None, All, refl, sym, ap, subst, ◌∙◌, arith}
+use Rattle.std.proofs.Common.{◌≡◌, ◌⊎◌, ℕ, zero, suc, ◌+◌, ◌-◌, ◌*◌, ◌/◌, ◌%◌, ◌<◌, ◌≤◌, Bool, true, false, cond, nat_lt, List, [], length, Option, Some, None, All, refl, sym, ap, subst, ◌∙◌, arith}
 use mathlib.Core.Logic.{inl, inr}
 use Rattle.std.specs.Prelude.{slice_get}
 use Rattle.std.proofs.lemmas.Bool.{cases_lt, ne_eqb}
@@ -7,7 +7,6 @@ use Rattle.std.proofs.lemmas.Bool.Decides.{nat_tests}
 use Rattle.std.proofs.Math.ListN.{get_or-eq_default}
 use Rattle.std.proofs.lemmas.List.Elements.{All-get_or}
 use Rattle.nm_base.specs.declared.action.Action.{Action}
-use Rattle.nm_base.specs.declared.int_type.IntType.{IntType}
 use Rattle.nesc_core.specs.Plain.{Program}
 use Rattle.nesc_core.specs.WellFormed.{BeginsContext}
 use Rattle.msp_isa.specs.declared.code.CodeFn.{CodeFn}
@@ -15,7 +14,6 @@ use Rattle.msp_isa.specs.Stands.{items_of}
 use Rattle.msp430_cpu.specs.Cpu.{even}
 use Rattle.mid_code.specs.declared.code.MidCode.{MidCode}
 use Rattle.mid_code.specs.declared.code.MidFn.{MidFn}
-use Rattle.mid_code.specs.declared.help.HelpOp.{HelpOp}
 use Rattle.mid_code.specs.declared.instr.Mid.{Mid}
 use Rattle.mid_code.specs.declared.instr.Mid.TheVariants.{Set, Help, Post, Fault}
 use Rattle.mid_code.specs.Form.{FitsProgram, HelpFits, IsMidCode, IsMidFn, KindFits, OperationFits}
@@ -25,7 +23,7 @@ use Rattle.lower_stmt.specs.Bodies.{lowered}
 use Rattle.lower_form.specs.Instructions.{IsSound}
 use Rattle.lower_form.proofs.Form.{keeps_form}
 use Rattle.lower_form.proofs.Sound.{are_sound, is_small}
-use Rattle.lower_pace.specs.Pace.{heaviest_of, help_bound, longest_of, own_of}
+use Rattle.lower_pace.specs.Pace.{help_bound, own_of}
 use Rattle.lower_pace.proofs.Weighed.{code_is_paced}
 use Rattle.open_law.specs.Homes.{Home}
 use Rattle.msp_select.specs.Frames.{count_pushed}

@@ -6,7 +6,7 @@ use Rattle.nesc_core.specs.Plain.{Program}
 use Rattle.nesc_core.specs.Weights.{pace_of_program}
 use Rattle.core_meaning.specs.SourceOf.{handler_in}
 use Rattle.msp_isa.specs.declared.code.CodeFn.{CodeFn}
-use Rattle.msp_isa.specs.Stands.{IsLaid, items_of, word_in}
+use Rattle.msp_isa.specs.Stands.{items_of, word_in}
 use Rattle.msp430_cpu.specs.Cpu.{even}
 use Rattle.mid_code.specs.Machine.{fn_of}
 use Rattle.lower_stmt.specs.Bodies.{lowered}
