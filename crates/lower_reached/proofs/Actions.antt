@@ -1,23 +1,25 @@
 -- What the machine does in a state that is reached is an action of the body.
-use Rattle.std.proofs.Common.{◌≡◌, ◌⊎◌, inl, inr, ⊎_elim, ℕ, zero, suc, ◌<◌, true, List, [], ◌∷◌, ◌++◌, Some, refl, sym, ap, ◌∙◌, subst}
-use Rattle.std.specs.Prelude.{slice_get}
+use Rattle.std.proofs.Common.{◌≡◌, ◌⊎◌, inl, inr, ⊎_elim, ℕ, zero, suc, ◌<◌, ◌≤◌, true, List, [], ◌∷◌, length, take, Some, refl, sym, ap, ◌∙◌, subst, arith}
+use Rattle.std.specs.Prelude.{ℤ, slice_get}
 use Rattle.nm_base.specs.declared.action.Action.{Action}
 use Rattle.nm_base.specs.declared.action.Action.TheVariants as action
-use Rattle.nm_base.specs.Behaviour.{Trace, play}
+use Rattle.nm_base.specs.Behaviour.{Behaviour, Returns, play}
 use Rattle.nesc_core.specs.Plain.{Body, Program}
 use Rattle.nesc_core.specs.WellFormed.{IsWellFormed}
 use Rattle.nesc_core.specs.Calls.{HasNoCycle}
 use Rattle.mid_code.specs.declared.instr.Mid.{Mid}
 use Rattle.mid_code.specs.declared.instr.Mid.TheVariants.{Load, Store}
 use Rattle.mid_code.specs.declared.code.MidCode.{MidCode}
-use Rattle.mid_code.specs.Machine.{Activation, Next, Goes, Acts, Wants, Ends, Stops, fn_of, follow, instruction, moved, perform, shown, started, step, steps}
+use Rattle.mid_code.specs.Machine.{Activation, entry, Next, Goes, Acts, Wants, Ends, Stops, fn_of, follow, instruction, moved, perform, shown, started, step, steps}
 use Rattle.mid_code.specs.Reached.{MayGoOn, opens_at, state_at}
-use Rattle.mid_code.specs.Runs.{AreWords}
+use Rattle.mid_code.specs.Runs.{AreWords, Runs}
+use Rattle.mid_code.specs.Words.{joined}
+use Rattle.mid_code.proofs.Runs.{ends_with}
+use Rattle.lower_expr.specs.Runs.{AreOf, given, passed}
 use Rattle.lower_stmt.specs.Bodies.{lowered}
-use Rattle.lower_stmt.specs.Correct.{GoesOn, IsTold, source, target}
-use Rattle.lower_stmt.proofs.Behaving.{roots_behave}
 use Rattle.lower_stmt.proofs.Labels.{are_labelled}
-use Rattle.lower_reached.specs.Laws.{AccessesAreOfData, AreOfData, InnermostMayGoOn, IsOfData, is_access, is_of_place}
+use Rattle.lower_stmt.proofs.Program.{call_runs}
+use Rattle.lower_reached.specs.Laws.{AccessesAreOfData, AreOfData, InnermostMayGoOn, done, IsOfData, is_access, is_of_place}
 use Rattle.lower_reached.proofs.Reached.{statements_nest}
 
 -- the calls after so many steps from these
@@ -44,10 +46,6 @@ nothing_shown c answers n a e = let q = ap (λ s. shown (step c s)) (sym (over c
 abbrev Among : Action → List Action → Type 0
 Among a [] = ⊥
 Among a (b ∷ rest) = (b ≡ a) ⊎ Among a rest
-
-among_more : (a : Action) (xs ys : List Action) → Among a xs → Among a (xs ++ ys)
-among_more a [] ys h = absurd h
-among_more a (x ∷ xs) ys h = ⊎_elim (λ e. inl e) (λ r. inr (among_more a xs ys r)) h
 
 -- answers with which it is done within so many steps
 record IsDone (c : MidCode) (m : ℕ) (s : List Activation) (a : Action) : Type 0 where
@@ -76,10 +74,10 @@ done_later c m n answers a (Wants b t) small go e = let d = go (t (answers 0)) e
 done_later c m n answers a (Ends xs) small go e = absurd (nothing_shown c (λ i. answers (suc i)) n a e)
 done_later c m n answers a (Stops code) small go e = absurd (nothing_shown c (λ i. answers (suc i)) n a e)
 
-done : (c : MidCode) (n : ℕ) (s : List Activation) (answers : ℕ → ℕ) (a : Action) → ((i : ℕ) → answers i < 65536) → shown (step c (from c s answers n)) ≡ Some a → IsDone c (suc n) s a
-done c zero s answers a small e = record { given = []; words = tt; among = done_now c s a zero (step c s) e }
-done c (suc n) s answers a small e =
-    let f = done_later c (suc n) n answers a (step c s) (small 0) (λ t q. done c n t (λ i. answers (suc i)) a (λ i. small (suc i)) q) e in
+done_in : (c : MidCode) (n : ℕ) (s : List Activation) (answers : ℕ → ℕ) (a : Action) → ((i : ℕ) → answers i < 65536) → shown (step c (from c s answers n)) ≡ Some a → IsDone c (suc n) s a
+done_in c zero s answers a small e = record { given = []; words = tt; among = done_now c s a zero (step c s) e }
+done_in c (suc n) s answers a small e =
+    let f = done_later c (suc n) n answers a (step c s) (small 0) (λ t q. done_in c n t (λ i. answers (suc i)) a (λ i. small (suc i)) q) e in
     record { given = f.given; words = f.words; among = f.among }
 
 -- ---- what the body does
@@ -88,17 +86,41 @@ each_among : (a : Action) (xs : List Action) → AreOfData xs → Among a xs →
 each_among a [] h m = absurd m
 each_among a (x ∷ xs) h m = ⊎_elim (λ e. subst IsOfData e h.0) (λ r. each_among a xs h.1 r) m
 
-among_goes_on : (a : Action) (t u : Trace) → GoesOn t u → Among a t.actions → Among a u.actions
-among_goes_on a t u h m =
-    ⊎_elim (λ e. subst (λ w. Among a w.actions) e m) (λ r. subst (λ l. Among a l) (sym r.1.1) (among_more a t.actions r.1.0 m)) h
+-- and so it is in more steps
+module _ (c : MidCode) where
+  more_follow : (a : Action) (given : List ℕ) (next : Next) (f g : List Activation → Behaviour) → ((s : List Activation) (rest : List ℕ) → Among a (play (f s) rest).actions → Among a (play (g s) rest).actions) →
+      Among a (play (follow next f) given).actions → Among a (play (follow next g) given).actions
+  more_follow a given (Goes s) f g h m = h s given m
+  more_follow a given (Acts b s) f g h m = ⊎_elim (λ e. inl e) (λ r. inr (h s given r)) m
+  more_follow a [] (Wants b s) f g h m = m
+  more_follow a (x ∷ given) (Wants b s) f g h m = ⊎_elim (λ e. inl e) (λ r. inr (h (s x) given r)) m
+  more_follow a given (Ends xs) f g h m = m
+  more_follow a given (Stops code) f g h m = m
 
-module _ (p : Program) (ranked : HasNoCycle p) (formed : IsWellFormed p) (f : ℕ) (b : Body) (is : slice_get p.bodies f ≡ Some b) (none : b.params ≡ 0) (told : IsTold b.result) (stays : AccessesAreOfData p f) where
+  more_steps : (a : Action) (m k : ℕ) → m ≤ k → (s : List Activation) (given : List ℕ) → Among a (play (steps c m s) given).actions → Among a (play (steps c k s) given).actions
+  more_steps a zero k le s given h = absurd h
+  more_steps a (suc m) zero le s given h = absurd (omega (arith, le))
+  more_steps a (suc m) (suc k) le s given h = more_follow a given (step c s) (steps c m) (steps c k) (more_steps a m k (omega (arith, le))) h
+
+module _ (p : Program) (ranked : HasNoCycle p) (formed : IsWellFormed p) (f : ℕ) (b : Body) (is : slice_get p.bodies f ≡ Some b) (none : b.params ≡ 0) (stays : AccessesAreOfData p f) where
+  -- what is told of a result: the number in the values that give it back
+  told : ℤ → ℕ
+  told v = joined (given b.result v)
+
+  body_runs : (n : ℕ) → Runs (lowered p) n (done p f told n) (started (lowered p) f)
+  unfolding told
+  body_runs n =
+      subst (λ xs. Runs (lowered p) n (done p f told n) (entry (lowered p) f xs ∷ [])) (ap (λ k. passed (take k b.locals) []) none)
+      (call_runs p formed ranked (are_labelled p) n (length p.bodies) n (omega arith) f b [] (λ v. Returns (joined (given b.result v))) [] is (ranked.low f b is) (subst (λ k. AreOf (take k b.locals) []) (sym none) tt)
+      (λ v s number nothing e. ends_with (lowered p) n (given b.result v) s e))
+
   shown_of_data : (answers : ℕ → ℕ) → ((i : ℕ) → answers i < 65536) → (n : ℕ) (a : Action) → shown (step (lowered p) (state_at (lowered p) f answers n)) ≡ Some a → IsOfData a
   shown_of_data answers small n a e =
       let c : MidCode = lowered p in
-      let d = done c n (started c f) answers a small (ap (λ s. shown (step c s)) (sym (reached_from c f answers n)) ∙ e) in
-      let only = (roots_behave p ranked formed (are_labelled p) f b is none told).only d.given d.words (suc n) in
-      each_among a (source p f d.given only.0).actions (stays.each d.given d.words only.0) (among_goes_on a (target c f d.given (suc n)) (source p f d.given only.0) only.1 d.among)
+      let d = done_in c n (started c f) answers a small (ap (λ s. shown (step c s)) (sym (reached_from c f answers n)) ∙ e) in
+      let r = (body_runs (suc n)).by d.given d.words in
+      let among : Among a (play (done p f told (suc n)) d.given).actions = subst (λ w. Among a w.actions) r.2 (more_steps c a (suc n) r.0 r.1 (started c f) d.given d.among) in
+      each_among a (play (done p f told (suc n)) d.given).actions (stays.each told d.given d.words (suc n)) among
 
   access : (s : List Activation) (all : List (List ℕ)) → ((a : Action) → shown (step (lowered p) s) ≡ Some a → IsOfData a) → InnermostMayGoOn is_of_place (lowered p) s all → InnermostMayGoOn is_access (lowered p) s all
   access [] all h g = tt

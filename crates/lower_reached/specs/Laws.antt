@@ -1,10 +1,12 @@
 -- The rules of reached states that lowered programs keep (own).
-use Rattle.std.specs.Prelude.{◌≡◌, ℕ, ◌<◌, ◌^◌, Bool, true, false, List, [], ◌∷◌, length, Some, slice_get}
+use Rattle.std.specs.Prelude.{◌≡◌, ℕ, ℤ, ◌<◌, ◌^◌, Bool, true, false, List, [], ◌∷◌, length, Some, slice_get}
 use Rattle.nm_base.specs.declared.action.Action.{Action}
 use Rattle.nm_base.specs.declared.action.Action.TheVariants as action
+use Rattle.nm_base.specs.Behaviour.{Behaviour, Returns, play}
 use Rattle.nesc_core.specs.Plain.{Body, Program}
 use Rattle.nesc_core.specs.Calls.{HasNoCycle}
 use Rattle.nesc_core.specs.WellFormed.{IsWellFormed}
+use Rattle.core_meaning.specs.Act.{calls_of}
 use Rattle.mid_code.specs.declared.instr.Mid.{Mid}
 use Rattle.mid_code.specs.declared.instr.Mid.TheVariants.{Load, Store, Peek, Poke, Help}
 use Rattle.mid_code.specs.declared.code.MidCode.{MidCode}
@@ -12,7 +14,6 @@ use Rattle.mid_code.specs.Machine.{Activation, fn_of, instruction}
 use Rattle.mid_code.specs.Reached.{IsData, KeepsForm, MayGoOn, opens_at, state_at}
 use Rattle.mid_code.specs.Runs.{AreWords}
 use Rattle.lower_stmt.specs.Bodies.{lowered}
-use Rattle.lower_stmt.specs.Correct.{IsTold, source}
 
 -- an instruction whose rule asks nothing of values
 abbrev pub is_of_place : Mid → Bool
@@ -66,14 +67,18 @@ abbrev pub AreOfData : List Action → Type 0
 AreOfData [] = Unit {0}
 AreOfData (a ∷ rest) = IsOfData a × AreOfData rest
 
--- each access that a body without parameters does is to data
+-- what a body without parameters does, where loops make so many turns and this is told of what it gives back
+abbrev pub done : Program → ℕ → (told : ℤ → ℕ) → (turns : ℕ) → Behaviour
+done p f told turns = calls_of p (length p.bodies) turns f [] (λ v. Returns (told v))
+
+-- each access that it does is to data
 pub record AccessesAreOfData (p : Program) (f : ℕ) : Type 0 where
-  pub each : (answers : List ℕ) → AreWords answers → (turns : ℕ) → AreOfData (source p f answers turns).actions
+  pub each : (told : ℤ → ℕ) (answers : List ℕ) → AreWords answers → (turns : ℕ) → AreOfData (play (done p f told turns) answers).actions
 
 -- where the body's accesses are to data, so are those of its function
 abbrev pub AccessesStay : Type 0
 AccessesStay =
-    (p : Program) → HasNoCycle p → IsWellFormed p → (f : ℕ) (b : Body) → slice_get p.bodies f ≡ Some b → b.params ≡ 0 → IsTold b.result → AccessesAreOfData p f →
+    (p : Program) → HasNoCycle p → IsWellFormed p → (f : ℕ) (b : Body) → slice_get p.bodies f ≡ Some b → b.params ≡ 0 → AccessesAreOfData p f →
     (answers : ℕ → ℕ) → ((i : ℕ) → answers i < 2 ^ 16) → (n : ℕ) →
     InnermostMayGoOn is_access (lowered p) (state_at (lowered p) f answers n) (opens_at (lowered p) f answers n)
 
@@ -85,6 +90,8 @@ MayGoOnWhere chosen c =
     (f : ℕ) → f < length c.fns → (fn_of c f).params ≡ [] → (answers : ℕ → ℕ) → ((i : ℕ) → answers i < 2 ^ 16) → (n : ℕ) →
     InnermostMayGoOn chosen c (state_at c f answers n) (opens_at c f answers n)
 
--- what is asked of accesses to memory and to frames is all that is left of the rules
+-- what is left of the rules: that bodies access data, and functions their frames
 abbrev pub AccessesAreLeft : Type 0
-AccessesAreLeft = (p : Program) → IsWellFormed p → MayGoOnWhere is_access (lowered p) → MayGoOnWhere is_of_frame (lowered p) → KeepsForm (lowered p)
+AccessesAreLeft =
+    (p : Program) → HasNoCycle p → IsWellFormed p → ((f : ℕ) → AccessesAreOfData p f) → MayGoOnWhere is_of_frame (lowered p) →
+    KeepsForm (lowered p)

@@ -15,13 +15,14 @@ pub fn divisors_are_other()
     ensures { DivisorsAreOther }
 {}
 
-/// Of a body without parameters whose result is told whole: where each Load and Store that the body does is to data, so is each that
-/// its function does in a state that the machine reaches.
+/// Of a body without parameters: where each Load and Store that the body does is to data, so is each that its function does in a state
+/// that the machine reaches.
 pub fn accesses_stay()
     ensures { AccessesStay }
 {}
 
-/// The code of a well-formed program keeps all rules of reached states where its Loads and Stores, Peeks and Pokes keep theirs.
+/// The code of a well-formed program without a cycle of calls keeps all rules of reached states, where its bodies load and store data
+/// alone, and its functions keep the rules of Peeks and Pokes.
 pub fn accesses_are_left()
     ensures { AccessesAreLeft }
 {}
