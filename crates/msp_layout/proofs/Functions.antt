@@ -37,6 +37,9 @@ entry_more forms f d lt =
     sum_by_more sum (all_sizes forms) f [] (omega (arith, length-map forms (λ (x : Formed). x.sizes.items)))
     ∙ ap (λ (s : List ℕ). entry_of (all_sizes forms) f + sum s) (get_or-map (λ (x : Formed). x.sizes.items) forms f d [] lt)
 
+pub entry_next : (forms : List Formed) (f : ℕ) (d : Formed) → f < length forms → entry_of (all_sizes forms) (suc f) ≡ entry_of (all_sizes forms) f + sum (get_or forms f d).sizes.items
+entry_next forms f d lt = let e : suc f ≡ f + 1 = omega arith in rw e (entry_more forms f d lt)
+
 pub entry_le : (forms : List Formed) (f : ℕ) (d : Formed) → f < length forms → entry_of (all_sizes forms) f + sum (get_or forms f d).sizes.items ≤ sum_by sum (all_sizes forms)
 entry_le forms f d lt =
     rw (← get_or-map (λ (x : Formed). x.sizes.items) forms f d [] lt) (sum_by_more_le sum (all_sizes forms) f [] (omega (arith, length-map forms (λ (x : Formed). x.sizes.items))))

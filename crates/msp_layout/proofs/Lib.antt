@@ -7,5 +7,7 @@ pub mod Deepest
 pub mod Searching
 pub mod Handlers
 pub mod Placed
+pub mod Order
+pub mod ByRank
 pub mod Onward
 pub mod Between

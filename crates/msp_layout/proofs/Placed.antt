@@ -1,4 +1,4 @@
--- Words that stand in the code stand in the image's memory, item by item.
+-- Words that stand in the code stand in the image's memory, item by item and function by function.
 use Rattle.std.proofs.Common.{◌≡◌, ℕ, suc, ◌+◌, ◌-◌, ◌*◌, ◌/◌, ◌%◌, ◌<◌, ◌≤◌, Bool, false, List, [], ◌∷◌, ◌++◌, length, get_or, arith, refl, sym, ap, ◌∙◌, length-append}
 use Rattle.std.specs.List.{AllByRecursion}
 use Rattle.std.proofs.lemmas.Bool.{le-leb, lt-ltb, eq-eqb, ne_eqb}
@@ -14,10 +14,12 @@ use Rattle.msp_isa.specs.Image.{byte_of, image_map}
 use Rattle.msp_isa.specs.Stands.{word_in, IsAt, AreAt, instructions, item_at, items_of, LeadsTo, IsLaid}
 use Rattle.msp_layout.specs.declared.form.Formed.{Formed}
 use Rattle.msp_layout.specs.Laid.{AreGoodFns, StandsOnce}
+use Rattle.msp_layout.specs.Order.{AreInOrder}
 use Rattle.msp_layout.specs.Sizes.{place, IsCorrect}
 use Rattle.msp_layout.specs.Bytes.{entry_of, AreShortest}
 use Rattle.msp_layout.specs.Words.{words_of, StandIn, is_long, formed_item, AreFormed, FnsStand, all_sizes}
-use Rattle.msp_layout.proofs.Shortest.{three_words}
+use Rattle.msp_layout.proofs.Functions.{entry_next}
+use Rattle.msp_layout.proofs.Shortest.{three_words, place_up, place_le}
 use Rattle.msp_layout.proofs.Stand.{place_more, item_bytes}
 
 in_code : (words vectors : List ℕ) (x : ℕ) → 0x4000 ≤ x → x < 0xFFE0 → image_map words vectors x ≡ byte_of (get_or words ((x - 0x4000) / 2) 0) x
@@ -60,6 +62,10 @@ one_word (instr.Two op byte x y) = omega arith
 one_word (instr.One op byte x) = omega arith
 one_word (instr.Jump c k) = omega arith
 one_word instr.Reti = omega arith
+
+-- addresses rise with the bytes before them
+up_from : (base a b : ℕ) → a ≤ b → 0x4000 + (base + a) ≤ 0x4000 + (base + b)
+up_from base a b h = omega arith
 
 module _ (words vectors : List ℕ) (few : length words ≤ 24560) where
   -- the words of an instruction
@@ -114,22 +120,34 @@ module _ (words vectors : List ℕ) (few : length words ≤ 24560) where
       (omega (arith, place_more sizes k (omega (arith, is.len)), item_bytes entries (0x4000 + (before + place sizes k)) (0x4000 + (before + place sizes (get_or targets k 0))) (get_or sizes k 0) (item_at items k) (is.each k lt))))
 
   pub laid_of : (entries : ℕ → ℕ) (code : List CodeFn) (forms : List Formed) → AreGoodFns code → AreFormed code forms (length code) → FnsStand entries code forms words (length code) →
-      ((f : ℕ) → f < length code → 0x4000 + entry_of (all_sizes forms) f ≡ entries f) → IsLaid (image_map words vectors) code entries
-  laid_of entries code [] good formed stand es = record {
-    places = λ f k. 0;
-    long = λ f k. false;
-    entry = λ f lt. absurd (omega (arith, formed.len));
-    stands = λ f k t lt klt leads. absurd (omega (arith, formed.len));
-  }
-  laid_of entries code (x ∷ xs) good formed stand es = record {
-    places = λ f k. 0x4000 + (entry_of (all_sizes (x ∷ xs)) f + place (get_or (x ∷ xs) f x).sizes.items k);
-    long = λ f k. is_long (get_or (get_or (x ∷ xs) f x).sizes.items k 0);
-    entry = λ f lt. omega (arith, es f lt);
-    stands = λ f k t lt klt leads.
-        let is = formed.each f x lt in
-        let s = stand f x lt k klt in
-        one_item entries (items_of code f) (get_or (x ∷ xs) f x).sizes.items (get_or (x ∷ xs) f x).targets.items (entry_of (all_sizes (x ∷ xs)) f) k t s.0 is.shortest.correct klt leads (is.targets.lead k klt) ((good f lt).labels k) s.1 s.2;
-  }
+      ((f : ℕ) → f < length code → 0x4000 + entry_of (all_sizes forms) f ≡ entries f) → (laid : IsLaid (image_map words vectors) code entries) × AreInOrder code laid.places
+  laid_of entries code [] good formed stand es = (
+    record {
+      places = λ f k. 0;
+      long = λ f k. false;
+      entry = λ f lt. absurd (omega (arith, formed.len));
+      stands = λ f k t lt klt leads. absurd (omega (arith, formed.len));
+    },
+    record {
+      items = λ f k lt klt. absurd (omega (arith, formed.len));
+      functions = λ f lt. absurd (omega (arith, formed.len));
+    },
+  )
+  laid_of entries code (x ∷ xs) good formed stand es = (
+    record {
+      places = λ f k. 0x4000 + (entry_of (all_sizes (x ∷ xs)) f + place (get_or (x ∷ xs) f x).sizes.items k);
+      long = λ f k. is_long (get_or (get_or (x ∷ xs) f x).sizes.items k 0);
+      entry = λ f lt. omega (arith, es f lt);
+      stands = λ f k t lt klt leads.
+          let is = formed.each f x lt in
+          let s = stand f x lt k klt in
+          one_item entries (items_of code f) (get_or (x ∷ xs) f x).sizes.items (get_or (x ∷ xs) f x).targets.items (entry_of (all_sizes (x ∷ xs)) f) k t s.0 is.shortest.correct klt leads (is.targets.lead k klt) ((good f lt).labels k) s.1 s.2;
+    },
+    record {
+      items = λ f k lt klt. up_from (entry_of (all_sizes (x ∷ xs)) f) (place (get_or (x ∷ xs) f x).sizes.items k) (place (get_or (x ∷ xs) f x).sizes.items (suc k)) (place_up (get_or (x ∷ xs) f x).sizes.items k (suc k) (omega arith));
+      functions = λ f lt. omega (arith, entry_next (x ∷ xs) f x (omega (arith, formed.len)), place_le (get_or (x ∷ xs) f x).sizes.items (length (items_of code f)));
+    },
+  )
 
 pub all_words : (xs : List ℕ) → ((i : ℕ) → get_or xs i 0 < 0x10000) → AllByRecursion (λ w. w < 0x10000) xs
 all_words [] h = tt

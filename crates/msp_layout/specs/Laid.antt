@@ -1,5 +1,5 @@
 -- What `layout` is given, and what it gives (own).
-use Rattle.std.specs.Prelude.{◌≡◌, ℕ, ◌+◌, ◌<◌, ◌≤◌, ◌*◌, ◌^◌, List, length, min, map, ◌++◌, replicate}
+use Rattle.std.specs.Prelude.{◌≡◌, ℕ, ◌+◌, ◌<◌, ◌≤◌, ◌*◌, ◌%◌, ◌^◌, List, length, min, map, ◌++◌, replicate}
 use Rattle.nm_base.specs.declared.fault.Fault.{Fault}
 use Rattle.nm_base.specs.declared.fault.Fault.TheVariants.{TooLarge, NoMemory}
 use Rattle.nm_base.specs.declared.limit.Room.TheVariants.{Code, Ram}
@@ -12,6 +12,7 @@ use Rattle.msp_isa.specs.Image.{IsImage, image_map}
 use Rattle.msp_isa.specs.Stands.{item_at, items_of, IsLaid}
 use Rattle.msp_layout.specs.Bytes.{HasBytes}
 use Rattle.msp_layout.specs.Depth.{calls_of, Names, IsStack, HasNoCycle}
+use Rattle.msp_layout.specs.Order.{AreInOrder}
 
 -- an instruction is a written form, an address goes to one of the registers 4 to 15
 abbrev pub IsGoodItem : ℕ → Item → Type 0
@@ -44,11 +45,14 @@ pub record IsGoodCode (code : List CodeFn) (lines : List ℕ) (reset : ℕ) : Ty
   pub line_fns : (f : ℕ) → Names lines f → f < length code
   pub reset_fn : reset < length code
 
--- vectors 0 to 7 lead to the code of the lines, all others to that of reset
+-- functions stand one behind another, from even addresses on; vectors 0 to 7 lead to the code of the lines, all others to that of reset
 pub record IsPlaced (code : List CodeFn) (lines : List ℕ) (reset : ℕ) (words vectors : List ℕ) : Type 0 where
   pub image : IsImage words vectors
   pub entries : ℕ → ℕ
   pub laid : IsLaid (image_map words vectors) code entries
+  pub order : AreInOrder code laid.places
+  pub even_entry : (f : ℕ) → f < length code → entries f % 2 ≡ 0
+  pub small_entry : (f : ℕ) → f < length code → entries f < 0x10000
   pub leads : vectors ≡ map entries lines ++ replicate 8 (entries reset)
   pub bytes : HasBytes code (2 * length words)
 

@@ -2,6 +2,8 @@ pub mod Bytes
 pub mod Labels
 pub mod Sizes
 pub mod Depth
+pub mod Deep
+pub mod Order
 pub mod Laid
 pub mod Onward
 pub mod Rounds

@@ -5,6 +5,7 @@ mod depth;
 mod form;
 mod image;
 mod labels;
+mod laws;
 mod rows;
 mod sizes;
 mod stack;
@@ -13,6 +14,7 @@ mod tests;
 mod top;
 mod words;
 
+pub use laws::{functions_stand_apart, stack_holds_depths};
 pub use msp_isa::Image;
 pub use rows::worked_rows;
 pub use top::layout;

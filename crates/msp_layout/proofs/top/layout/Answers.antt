@@ -1,8 +1,10 @@
 -- What is answered, from what is known of each part.
-use Rattle.std.proofs.Common.{◌≡◌, ℕ, ◌<◌, ◌≤◌, length, sum, sum_by, get_or, map, replicate, arith, refl, sym, ap, ◌∙◌}
+use Rattle.std.proofs.Common.{◌≡◌, ℕ, ◌+◌, ◌<◌, ◌≤◌, length, sum, sum_by, get_or, map, replicate, arith, refl, sym, ap, ◌∙◌}
 use Rattle.std.proofs.lemmas.List.{length-append, length-map, length-replicate}
+use Rattle.msp_layout.specs.Bytes.{entry_of}
 use Rattle.msp_layout.specs.Words.{all_sizes}
 use Rattle.msp_layout.proofs.Placed.{laid_of, shortest_of, all_words}
+use Rattle.msp_layout.proofs.Order.{entries_are_even, entries_are_small}
 use Rattle.msp_layout.proofs.top.layout.Goals as goal
 
 pub returns-then-bytes-gt-CODE_BYTES-clause-cause : goal.returns-then-bytes-gt-CODE_BYTES-clause-cause
@@ -50,6 +52,8 @@ returns-clause-placed c =
     let vectors = rw c.deref-5.ensures.value at c.vectors_of-vectors.ensures.lead in
     let bytes = rw c.deref.ensures.value at c.code_bytes-bytes.ensures in
     let few : length c.in_ok-words.words.items ≤ 24560 = omega (arith, len, bytes) in
+    let es : (f : ℕ) → f < length c.args.code.now → 0x4000 + entry_of (all_sizes c.in_ok-forms.forms.items) f ≡ entries f = λ f lt. sym (each f (omega (arith, forms.len))) in
+    let laid = laid_of c.in_ok-words.words.items c.vectors_of-vectors.result few entries c.args.code.now c.in_ok-forms.forms.items c.requires.fns forms stands es in
     record {
       image = record {
         fits = few;
@@ -58,7 +62,10 @@ returns-clause-placed c =
         vector_words = all_words c.vectors_of-vectors.result c.vectors_of-vectors.ensures.wide;
       };
       entries = entries;
-      laid = laid_of c.in_ok-words.words.items c.vectors_of-vectors.result few entries c.args.code.now c.in_ok-forms.forms.items c.requires.fns forms stands (λ f lt. sym (each f (omega (arith, forms.len))));
+      laid = laid.0;
+      order = laid.1;
+      even_entry = entries_are_even c.args.code.now c.in_ok-forms.forms.items forms entries es;
+      small_entry = entries_are_small c.args.code.now c.in_ok-forms.forms.items forms entries es (omega (arith, len, few));
       leads = vectors;
       bytes = record { sizes = all_sizes c.in_ok-forms.forms.items; shortest = shortest_of c.args.code.now c.in_ok-forms.forms.items forms; sum = sym len };
     }
