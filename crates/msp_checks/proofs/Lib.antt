@@ -1,1 +1,6 @@
 pub mod WorkedRows
+pub mod Numbers
+pub mod Matching
+pub mod Ending
+pub mod Laid
+pub mod Written

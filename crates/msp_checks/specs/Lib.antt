@@ -1,3 +1,4 @@
 pub mod Checks
+pub mod Pieces
 pub mod Rows
 pub mod Laws
