@@ -3,4 +3,3 @@ pub mod Numbers
 pub mod Matching
 pub mod Ending
 pub mod Laid
-pub mod Written

@@ -1,4 +1,3 @@
 pub mod Checks
-pub mod Pieces
 pub mod Rows
 pub mod Laws
