@@ -22,10 +22,10 @@ use Rattle.open_law.proofs.Chain.{Goes, Takes, fault, go_to, jump, ret, step}
 use Rattle.open_law.proofs.Log.{actions_on, answers_on}
 use Rattle.open_law.proofs.Quiet.{passed, reg_plain}
 use Rattle.open_law.proofs.View.{IsLog, IsRoom, Shows, View, cpu_of}
-use Rattle.msp_select.specs.Routine.{Does, Ends, Faults, Hold, IsBack, IsGoing, IsInside, Turns}
+use Rattle.msp_select.specs.Routine.{Does, Ends, IsBack, IsGoing, IsInside, Turns}
 use Rattle.msp_select.proofs.Turning.{turns_of}
 use Rattle.msp_runtime.specs.Code.{Code, Registers, IsBounded, depth, is_formed, leaves, leaves_others, meaning, weight}
-use Rattle.msp_runtime.proofs.Running.{Good, IsSettled, Jumps, Reach, SameFrom, Stand, at, both, code_leaves, reversed_not, run, settled_on, sp_on, word_on}
+use Rattle.msp_runtime.proofs.Running.{Good, IsSettled, Jumps, Reach, SameFrom, Stand, at, both, code_leaves, run, settled_on, sp_on, word_on}
 use Rattle.msp_checks.specs.Checks.{raise}
 
 others_left : (c : Code) → leaves_others c ≡ true → (r : ℕ) → 4 ≤ r → r < 12 → leaves r c ≡ true

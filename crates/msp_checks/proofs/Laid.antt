@@ -1,7 +1,7 @@
 -- A check's code, laid out in an image, is the routine of its number there.
-use Rattle.std.proofs.Common.{None, Some, ◌≡◌, Option, ℕ, suc, ◌+◌, ◌-◌, ◌*◌, ◌%◌, ◌<◌, ◌≤◌, ◌==◌, ◌&&◌, not, Bool, true, false, cond, List, [], ◌∷◌, ◌++◌, length, refl, sym, ap, ◌∙◌, subst, arith}
+use Rattle.std.proofs.Common.{Some, ◌≡◌, ℕ, suc, ◌+◌, ◌-◌, ◌*◌, ◌%◌, ◌<◌, ◌≤◌, ◌==◌, ◌&&◌, not, Bool, true, false, cond, List, [], ◌∷◌, ◌++◌, length, refl, sym, ap, ◌∙◌, subst, arith}
 use mathlib.Core.Logic.{inl, inr}
-use Rattle.std.specs.Prelude.{max, nat_lt, pos, slice_get, slice_index}
+use Rattle.std.specs.Prelude.{nat_lt, pos, slice_get, slice_index}
 use Rattle.std.proofs.lemmas.Bool.Decides.{nat_tests}
 use Rattle.std.proofs.Math.Nat.{mod-le}
 use Rattle.std.specs.List.{All}
@@ -11,9 +11,9 @@ use Rattle.msp_isa.specs.declared.code.Item.{Item}
 use Rattle.msp_isa.specs.declared.code.Item.TheVariants as item
 use Rattle.msp_isa.specs.declared.instr.Cond.TheVariants.{Jeq}
 use Rattle.msp_isa.specs.declared.instr.Instr.TheVariants.{Two}
-use Rattle.msp_isa.specs.declared.instr.Op2.TheVariants.{Mov, Cmp}
+use Rattle.msp_isa.specs.declared.instr.Op2.TheVariants.{Mov}
 use Rattle.msp_isa.specs.declared.instr.Operand.TheVariants.{Reg, Increment}
-use Rattle.msp_isa.specs.Stands.{AreAt, IsLaid, LeadsTo, instructions, item_at, items_of, words_to}
+use Rattle.msp_isa.specs.Stands.{AreAt, IsLaid, LeadsTo, instructions, items_of, words_to}
 use Rattle.msp430_cpu.specs.Cpu.{even, reg}
 use Rattle.mid_code.specs.declared.code.Check.{Check}
 use Rattle.mid_code.specs.declared.code.MidCode.{MidCode}
@@ -24,11 +24,11 @@ use Rattle.open_law.specs.Homes.{is_made, Made, Number, literal}
 use Rattle.open_law.specs.Open.{open_start}
 use Rattle.open_law.specs.Stands.{IsMarked}
 use Rattle.open_law.proofs.Quiet.{reg_plain}
-use Rattle.msp_select.specs.Routine.{Ends, Hold, IsGoing, IsPassed, IsRoutineOf, Turns}
-use Rattle.msp_runtime.specs.Code.{Code, Nothing, Do, Then, Skip, Keeping, Registers, depth, is_formed, is_operand, items_from, labels, leaves, leaves_others, return, weight}
-use Rattle.msp_runtime.proofs.Running.{Jumps, Stand, both}
-use Rattle.msp_runtime.proofs.Standing.{Holds, IsPlaced, all_hold, first_holds, leads_to, placed_at, rest_holds, single, stand_at}
-use Rattle.msp_checks.specs.Checks.{IsOfWords, IsWordRun, check_code, check_items, checked_items, found, last_of, match_code, raise, run_code, runs_code, runs_of}
+use Rattle.msp_select.specs.Routine.{Ends, Hold, IsGoing, IsPassed, Turns}
+use Rattle.msp_runtime.specs.Code.{Code, Nothing, Registers, depth, is_formed, is_operand, items_from, labels, leaves, leaves_others, return, weight}
+use Rattle.msp_runtime.proofs.Running.{Jumps, Stand}
+use Rattle.msp_runtime.proofs.Standing.{Holds, IsPlaced, all_hold, first_holds, leads_to, rest_holds, single, stand_at}
+use Rattle.msp_checks.specs.Checks.{IsOfWords, IsWordRun, check_code, checked_items, last_of, match_code, raise, run_code, runs_code, runs_of}
 use Rattle.msp_checks.specs.Laws.{ChecksAreRoutines, ChecksAreShort}
 use Rattle.msp_checks.proofs.Ending.{given_where, turns}
 use Rattle.msp_checks.proofs.Matching.{check_tells}

@@ -1,12 +1,10 @@
 -- What the code of a check means: behind it, Z tells whether the pointer is the address of a part.
-use Rattle.std.proofs.Common.{Some, ◌≡◌, ◌≢◌, ◌⊎◌, ℕ, zero, suc, ◌+◌, ◌-◌, ◌*◌, ◌/◌, ◌%◌, ◌<◌, ◌≤◌, ◌==◌, ◌&&◌, ◌||◌, not, Bool, true, false, cond, nat_le, nat_lt, List, [], ◌∷◌, refl, sym, ap, ◌∙◌, subst, arith}
+use Rattle.std.proofs.Common.{Some, ◌≡◌, ◌≢◌, ◌⊎◌, ℕ, zero, suc, ◌+◌, ◌-◌, ◌/◌, ◌%◌, ◌<◌, ◌≤◌, ◌==◌, ◌&&◌, ◌||◌, not, Bool, true, false, cond, nat_le, nat_lt, List, [], ◌∷◌, refl, sym, ap, ◌∙◌, subst, arith}
 use mathlib.Core.Logic.{inl, inr}
 use Rattle.std.specs.List.{All, list_any}
-use Rattle.std.specs.Prelude.{min}
 use Rattle.std.proofs.lemmas.Bool.Decides.{nat_tests}
 use Rattle.std.proofs.lemmas.Nat.{mod_below}
 use Rattle.std.proofs.Math.Dec.{eqb-suc-zero}
-use Rattle.nm_base.specs.Lists.{bit}
 use Rattle.msp_isa.specs.declared.instr.Cond.TheVariants.{Jne, Jeq, Jnc}
 use Rattle.msp_isa.specs.declared.instr.Op2.TheVariants as op2
 use Rattle.msp430_cpu.specs.Operate.{is_taken, operate}
@@ -14,8 +12,8 @@ use Rattle.open_law.specs.Homes.{Made, Number, is_made, literal}
 use Rattle.open_law.proofs.Homes.{flags_zero}
 use Rattle.mid_code.specs.declared.code.Check.{Check}
 use Rattle.mid_code.specs.Help.{is_in_run, is_part}
-use Rattle.msp_runtime.specs.Code.{Code, Nothing, Do, Then, Skip, Keeping, Registers, done, meaning, value_of}
-use Rattle.msp_runtime.specs.Routines.{all, compare, divide, register, set}
+use Rattle.msp_runtime.specs.Code.{Code, Nothing, Do, Then, Skip, Registers, done, meaning, value_of}
+use Rattle.msp_runtime.specs.Routines.{all, compare, register, set}
 use Rattle.msp_runtime.proofs.Divide.{divide_does}
 use Rattle.msp_runtime.proofs.Running.{straight_bounded}
 use Rattle.msp_runtime.proofs.Steps.{Ends, at_least, does, keeps, least_taken, nothing, skips, then}

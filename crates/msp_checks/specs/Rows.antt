@@ -1,5 +1,5 @@
 -- Rows of what the code of a check tells, at values where it differs (own).
-use Rattle.std.specs.Prelude.{◌≡◌, ℕ, Bool, true, false, List, [], ◌∷◌, slice_index}
+use Rattle.std.specs.Prelude.{◌≡◌, ℕ, Bool, true, false, [], ◌∷◌, slice_index}
 use Rattle.nm_base.specs.Lists.{bit}
 use Rattle.mid_code.specs.declared.code.Check.{Check}
 use Rattle.msp_runtime.specs.Code.{Registers, meaning, weight}
