@@ -6,11 +6,11 @@ stack in KB, 8192 if there is none."""
 import os
 import re
 import resource
-import shutil
 import subprocess
 import sys
-import tempfile
 import time
+
+from copies import repository_copy
 
 LEVELS = {"nested": [500, 2000, 10000], "chain": [1000, 10000, 60000]}
 KILOBYTES = int(sys.argv[1]) if len(sys.argv) > 1 else 8192
@@ -122,10 +122,7 @@ def run_tests(folder):
 
 
 def main():
-    top = os.path.dirname(os.path.dirname(os.path.abspath(__file__)))
-    with tempfile.TemporaryDirectory() as folder:
-        copy = os.path.join(folder, "repository")
-        shutil.copytree(top, copy, ignore=shutil.ignore_patterns("out", ".git"))
+    with repository_copy() as copy:
         source = os.path.join(copy, "crates", "core_act", "src")
         write_tests(source)
         limit = (KILOBYTES * 1024, resource.getrlimit(resource.RLIMIT_STACK)[1])

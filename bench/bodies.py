@@ -5,10 +5,10 @@ all widths, and inlined calls; and a chain of 200 bodies. It adds the generator 
 `rt try --test`. Its arguments are the first seed and how many, 1 and 300 if there are none."""
 import os
 import re
-import shutil
 import subprocess
 import sys
-import tempfile
+
+from copies import repository_copy
 
 FIRST = int(sys.argv[1]) if len(sys.argv) > 1 else 1
 COUNT = int(sys.argv[2]) if len(sys.argv) > 2 else 300
@@ -826,10 +826,7 @@ fn seed_{seed:06}(rt: HostRuntime) -> Result<(), Fail> {{
 
 
 def main():
-    top = os.path.dirname(os.path.dirname(os.path.abspath(__file__)))
-    with tempfile.TemporaryDirectory() as folder:
-        copy = os.path.join(folder, "repository")
-        shutil.copytree(top, copy, ignore=shutil.ignore_patterns("out", ".git"))
+    with repository_copy() as copy:
         source = os.path.join(copy, "crates", "lowered_rows", "src")
         crates = os.path.join(copy, "crates.txt")
         with open(crates) as f:
