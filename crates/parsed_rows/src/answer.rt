@@ -1,5 +1,8 @@
 //! What is said of a line.
 
+ghost use Rattle.std.specs.Prelude.{◌≡◌, [], codes, true, IfOk};
+ghost use Rattle.nesc_tree.specs.Sorts.{declared};
+
 use crate::trees::{expr_text, type_text};
 use nesc_parse_c::{parse_expr, parse_type};
 use nesc_tokens::lex;
@@ -14,7 +17,9 @@ const FILE: u32 = 1;
 const LEVELS: u32 = 1_000;
 
 /// The names of types that the lines may use.
-pub fn known_types(alloc: Global) -> Result<TypeNames, NoMemory> {
+pub fn known_types(alloc: Global) -> Result<TypeNames, NoMemory>
+    ensures { IfOk result (λ names. names ≡ declared (codes "uint8_t") true (declared (codes "t") true [])) }
+{
     let mut names = TypeNames::new(alloc);
     names.add(&Name::new(alloc, b"t")?)?;
     names.add(&Name::new(alloc, b"uint8_t")?)?;
