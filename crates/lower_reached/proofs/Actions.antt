@@ -1,5 +1,5 @@
 -- What the machine does in a state that is reached is an action of the body.
-use Rattle.std.proofs.Common.{◌≡◌, ◌⊎◌, inl, inr, ⊎_elim, ℕ, zero, suc, ◌<◌, ◌≤◌, true, List, [], ◌∷◌, length, take, Some, refl, sym, ap, ◌∙◌, subst, arith}
+use Rattle.std.proofs.Common.{◌≡◌, inl, inr, ⊎_elim, ℕ, zero, suc, ◌<◌, ◌≤◌, true, List, [], ◌∷◌, length, take, Some, refl, sym, ap, ◌∙◌, subst, arith}
 use Rattle.std.specs.Prelude.{ℤ, slice_get}
 use Rattle.nm_base.specs.declared.action.Action.{Action}
 use Rattle.nm_base.specs.declared.action.Action.TheVariants as action
@@ -19,7 +19,7 @@ use Rattle.lower_expr.specs.Runs.{AreOf, given, passed}
 use Rattle.lower_stmt.specs.Bodies.{lowered}
 use Rattle.lower_stmt.proofs.Labels.{are_labelled}
 use Rattle.lower_stmt.proofs.Program.{call_runs}
-use Rattle.lower_reached.specs.Laws.{AccessesAreOfData, AreOfData, InnermostMayGoOn, done, IsOfData, is_access, is_of_place}
+use Rattle.lower_reached.specs.Laws.{AccessesAreOfData, Among, AreOfData, InnermostMayGoOn, IsDoneBy, done, IsOfData, is_access, is_of_place}
 use Rattle.lower_reached.proofs.Reached.{statements_nest}
 
 -- the calls after so many steps from these
@@ -42,10 +42,6 @@ over c answers (suc n) = over c (λ i. answers (suc i)) n
 
 nothing_shown : (c : MidCode) (answers : ℕ → ℕ) (n : ℕ) (a : Action) → shown (step c (from c [] answers n)) ≡ Some a → ⊥
 nothing_shown c answers n a e = let q = ap (λ s. shown (step c s)) (sym (over c answers n)) ∙ e in absurd (cc)
-
-abbrev Among : Action → List Action → Type 0
-Among a [] = ⊥
-Among a (b ∷ rest) = (b ≡ a) ⊎ Among a rest
 
 -- answers with which it is done within so many steps
 record IsDone (c : MidCode) (m : ℕ) (s : List Activation) (a : Action) : Type 0 where
@@ -102,7 +98,7 @@ module _ (c : MidCode) where
   more_steps a (suc m) zero le s given h = absurd (omega (arith, le))
   more_steps a (suc m) (suc k) le s given h = more_follow a given (step c s) (steps c m) (steps c k) (more_steps a m k (omega (arith, le))) h
 
-module _ (p : Program) (ranked : HasNoCycle p) (formed : IsWellFormed p) (f : ℕ) (b : Body) (is : slice_get p.bodies f ≡ Some b) (none : b.params ≡ 0) (stays : AccessesAreOfData p f) where
+module _ (p : Program) (ranked : HasNoCycle p) (formed : IsWellFormed p) (f : ℕ) (b : Body) (is : slice_get p.bodies f ≡ Some b) (none : b.params ≡ 0) where
   -- what is told of a result: the number in the values that give it back
   told : ℤ → ℕ
   told v = joined (given b.result v)
@@ -114,13 +110,23 @@ module _ (p : Program) (ranked : HasNoCycle p) (formed : IsWellFormed p) (f : �
       (call_runs p formed ranked (are_labelled p) n (length p.bodies) n (omega arith) f b [] (λ v. Returns (joined (given b.result v))) [] is (ranked.low f b is) (subst (λ k. AreOf (take k b.locals) []) (sym none) tt)
       (λ v s number nothing e. ends_with (lowered p) n (given b.result v) s e))
 
-  shown_of_data : (answers : ℕ → ℕ) → ((i : ℕ) → answers i < 65536) → (n : ℕ) (a : Action) → shown (step (lowered p) (state_at (lowered p) f answers n)) ≡ Some a → IsOfData a
-  shown_of_data answers small n a e =
+  pub is_done : (answers : ℕ → ℕ) → ((i : ℕ) → answers i < 65536) → (n : ℕ) (a : Action) → shown (step (lowered p) (state_at (lowered p) f answers n)) ≡ Some a → IsDoneBy p f a
+  is_done answers small n a e =
       let c : MidCode = lowered p in
       let d = done_in c n (started c f) answers a small (ap (λ s. shown (step c s)) (sym (reached_from c f answers n)) ∙ e) in
       let r = (body_runs (suc n)).by d.given d.words in
-      let among : Among a (play (done p f told (suc n)) d.given).actions = subst (λ w. Among a w.actions) r.2 (more_steps c a (suc n) r.0 r.1 (started c f) d.given d.among) in
-      each_among a (play (done p f told (suc n)) d.given).actions (stays.each told d.given d.words (suc n)) among
+      record {
+        told = told;
+        answers = d.given;
+        words = d.words;
+        turns = suc n;
+        among = subst (λ w. Among a w.actions) r.2 (more_steps c a (suc n) r.0 r.1 (started c f) d.given d.among);
+      }
+
+  shown_of_data : AccessesAreOfData p f → (answers : ℕ → ℕ) → ((i : ℕ) → answers i < 65536) → (n : ℕ) (a : Action) → shown (step (lowered p) (state_at (lowered p) f answers n)) ≡ Some a → IsOfData a
+  shown_of_data stays answers small n a e =
+      let d = is_done answers small n a e in
+      each_among a (play (done p f d.told d.turns) d.answers).actions (stays.each d.told d.answers d.words d.turns) d.among
 
   access : (s : List Activation) (all : List (List ℕ)) → ((a : Action) → shown (step (lowered p) s) ≡ Some a → IsOfData a) → InnermostMayGoOn is_of_place (lowered p) s all → InnermostMayGoOn is_access (lowered p) s all
   access [] all h g = tt
@@ -135,5 +141,5 @@ module _ (p : Program) (ranked : HasNoCycle p) (formed : IsWellFormed p) (f : �
       by (Store w v y) at of = shows (Store w v y) _ at refl
       by i at of = absurd (cc)
 
-  pub accesses_go_on : (answers : ℕ → ℕ) → ((i : ℕ) → answers i < 65536) → (n : ℕ) → InnermostMayGoOn is_access (lowered p) (state_at (lowered p) f answers n) (opens_at (lowered p) f answers n)
-  accesses_go_on answers small n = access (state_at (lowered p) f answers n) (opens_at (lowered p) f answers n) (shown_of_data answers small n) (statements_nest p formed f answers n)
+  pub accesses_go_on : AccessesAreOfData p f → (answers : ℕ → ℕ) → ((i : ℕ) → answers i < 65536) → (n : ℕ) → InnermostMayGoOn is_access (lowered p) (state_at (lowered p) f answers n) (opens_at (lowered p) f answers n)
+  accesses_go_on stays answers small n = access (state_at (lowered p) f answers n) (opens_at (lowered p) f answers n) (shown_of_data stays answers small n) (statements_nest p formed f answers n)

@@ -1,5 +1,5 @@
 -- The rules of reached states that lowered programs keep (own).
-use Rattle.std.specs.Prelude.{◌≡◌, ℕ, ℤ, ◌<◌, ◌^◌, Bool, true, false, List, [], ◌∷◌, length, Some, slice_get}
+use Rattle.std.specs.Prelude.{◌≡◌, ◌⊎◌, ℕ, ℤ, ◌<◌, ◌^◌, Bool, true, false, List, [], ◌∷◌, length, Some, slice_get}
 use Rattle.nm_base.specs.declared.action.Action.{Action}
 use Rattle.nm_base.specs.declared.action.Action.TheVariants as action
 use Rattle.nm_base.specs.Behaviour.{Behaviour, Returns, play}
@@ -10,7 +10,7 @@ use Rattle.core_meaning.specs.Act.{calls_of}
 use Rattle.mid_code.specs.declared.instr.Mid.{Mid}
 use Rattle.mid_code.specs.declared.instr.Mid.TheVariants.{Load, Store, Peek, Poke, Help}
 use Rattle.mid_code.specs.declared.code.MidCode.{MidCode}
-use Rattle.mid_code.specs.Machine.{Activation, fn_of, instruction}
+use Rattle.mid_code.specs.Machine.{Activation, fn_of, instruction, shown, step}
 use Rattle.mid_code.specs.Reached.{IsData, KeepsForm, MayGoOn, opens_at, state_at}
 use Rattle.mid_code.specs.Runs.{AreWords}
 use Rattle.lower_stmt.specs.Bodies.{lowered}
@@ -70,6 +70,25 @@ AreOfData (a ∷ rest) = IsOfData a × AreOfData rest
 -- what a body without parameters does, where loops make so many turns and this is told of what it gives back
 abbrev pub done : Program → ℕ → (told : ℤ → ℕ) → (turns : ℕ) → Behaviour
 done p f told turns = calls_of p (length p.bodies) turns f [] (λ v. Returns (told v))
+
+abbrev pub Among : Action → List Action → Type 0
+Among a [] = ⊥
+Among a (b ∷ rest) = (b ≡ a) ⊎ Among a rest
+
+-- it does this action, for some answers and turns
+pub record IsDoneBy (p : Program) (f : ℕ) (a : Action) : Type 0 where
+  pub told : ℤ → ℕ
+  pub answers : List ℕ
+  pub words : AreWords answers
+  pub turns : ℕ
+  pub among : Among a (play (done p f told turns) answers).actions
+
+-- what its function does in a state that is reached, the body does
+abbrev pub ActionsAreDone : Type 0
+ActionsAreDone =
+    (p : Program) → HasNoCycle p → IsWellFormed p → (f : ℕ) (b : Body) → slice_get p.bodies f ≡ Some b → b.params ≡ 0 →
+    (answers : ℕ → ℕ) → ((i : ℕ) → answers i < 2 ^ 16) → (n : ℕ) (a : Action) → shown (step (lowered p) (state_at (lowered p) f answers n)) ≡ Some a →
+    IsDoneBy p f a
 
 -- each access that it does is to data
 pub record AccessesAreOfData (p : Program) (f : ℕ) : Type 0 where

@@ -1,6 +1,6 @@
 //! The rules of reached states that lowered programs keep.
 
-ghost use Rattle.lower_reached.specs.Laws.{AccessesAreLeft, AccessesStay, DivisorsAreOther, StatementsNest};
+ghost use Rattle.lower_reached.specs.Laws.{AccessesAreLeft, AccessesStay, ActionsAreDone, DivisorsAreOther, StatementsNest};
 
 /// In each state that the machine reaches in the code of a well-formed program, from the start of any function and whatever it is
 /// answered: a Begin saves the status at an even place inside the frame, apart from those that are open, an End closes the last open
@@ -13,6 +13,12 @@ pub fn statements_nest()
 /// pointers point to is not 0.
 pub fn divisors_are_other()
     ensures { DivisorsAreOther }
+{}
+
+/// What the machine does in a state that it reaches in the function of a body without parameters, of a well-formed program without a
+/// cycle of calls, is among the actions that the body does, for some answers and some turns of its loops.
+pub fn actions_are_done()
+    ensures { ActionsAreDone }
 {}
 
 /// Of a body without parameters: where each Load and Store that the body does is to data, so is each that its function does in a state

@@ -3,4 +3,6 @@
 
 mod laws;
 
-pub use laws::{accesses_are_left, accesses_stay, divisors_are_other, statements_nest};
+pub use laws::{
+    accesses_are_left, accesses_stay, actions_are_done, divisors_are_other, statements_nest,
+};
