@@ -1,0 +1,10 @@
+pub mod Safe
+pub mod Machine
+pub mod Known
+pub mod Forms
+pub mod Frames
+pub mod Exprs
+pub mod Values
+pub mod Stmts
+pub mod Bodies
+pub mod Objects
