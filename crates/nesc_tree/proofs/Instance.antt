@@ -7,9 +7,9 @@ use Rattle.nesc_tree.specs.Phrase.{Phrase, Of, begins, fits_one_level}
 use Rattle.nesc_tree.specs.Form.{Place, next, nullable, starts, SpellsIn}
 use Rattle.nesc_tree.specs.Sorts.{Names, ahead}
 use Rattle.nesc_tree.specs.Reading.{Fault, stop, rest_of, read, phrase, nests}
-use Rattle.nesc_tree.specs.Grammar.{production}
+use Rattle.nesc_tree.specs.Grammar.{production, expression, admits_cast}
 use Rattle.nesc_tree.proofs.Fine.{Fine}
-use Rattle.nesc_tree.proofs.Checked.{checked, opened}
+use Rattle.nesc_tree.proofs.Checked.{fine, opens, checked, opened}
 use Rattle.nesc_tree.proofs.Moves.{Moves, phrase_moves}
 use Rattle.nesc_tree.proofs.Open.{Open, stay, bars, Seed, seed, seed_of}
 use Rattle.nesc_tree.proofs.Some.{left_no}
@@ -24,8 +24,12 @@ use Rattle.nesc_tree.proofs.Levels as levels
 use Rattle.nesc_tree.proofs.Meets as meets
 use Rattle.nesc_tree.proofs.Sound as sound
 
+expr_fine : (b : Bool) (least : ℕ) → fine (expression b least) ≡ true
+expr_fine true least = refl
+expr_fine false least = refl
+
 pub all_fine : (p : Phrase) → Fine (production p)
-all_fine (Phrase.expr least) = checked (production (Phrase.expr least)) refl
+all_fine (Phrase.expr least) = checked (production (Phrase.expr least)) (expr_fine (admits_cast least) least)
 all_fine Phrase.opened = checked (production Phrase.opened) refl
 all_fine Phrase.fields = checked (production Phrase.fields) refl
 all_fine Phrase.pointers = checked (production Phrase.pointers) refl
@@ -66,38 +70,47 @@ reads_spelled = sound.phrase_sound production all_fine table
 pub reads_beside : (n : ℕ) (ended : Bool) (d e : ℕ) (k : Phrase) (p q r : Place) (a : Of k) → meets.Near n ended p q → SpellsIn production e k q a r → meets.Meets n ended d e a r (phrase production d k p)
 reads_beside = meets.phrase_meets production all_fine full table ends
 
+expr_opens : (b : Bool) (least : ℕ) → opens (expression b least) ≡ true
+expr_opens true least = refl
+expr_opens false least = refl
+
 all_open : (p : Phrase) → Open (production p)
-all_open (Phrase.expr least) = opened (production (Phrase.expr least)) refl
+all_open (Phrase.expr least) = opened (production (Phrase.expr least)) (expr_opens (admits_cast least) least)
 all_open Phrase.opened = opened (production Phrase.opened) refl
 all_open Phrase.fields = opened (production Phrase.fields) refl
 all_open Phrase.pointers = opened (production Phrase.pointers) refl
 all_open Phrase.type = opened (production Phrase.type) refl
 
+expr_stays : (b : Bool) (least : ℕ) (x : Sort) → stay (Phrase.expr least) x ≡ false → bars (expression b least) x ≡ false
+expr_stays b least s.Assign h = absurd cc
+expr_stays b least s.OpAssign h = absurd cc
+expr_stays b least s.Question h = absurd cc
+expr_stays b least s.OrOr h = absurd cc
+expr_stays b least s.AndAnd h = absurd cc
+expr_stays b least s.Bar h = absurd cc
+expr_stays b least s.Caret h = absurd cc
+expr_stays b least s.Amp h = absurd cc
+expr_stays b least s.Equality h = absurd cc
+expr_stays b least s.Less h = absurd cc
+expr_stays b least s.Greater h = absurd cc
+expr_stays b least s.OrEqual h = absurd cc
+expr_stays b least s.Shift h = absurd cc
+expr_stays b least s.Plus h = absurd cc
+expr_stays b least s.Minus h = absurd cc
+expr_stays b least s.Star h = absurd cc
+expr_stays b least s.Divide h = absurd cc
+expr_stays b least s.LBracket h = absurd cc
+expr_stays b least s.LParen h = absurd cc
+expr_stays b least s.Dot h = absurd cc
+expr_stays b least s.Arrow h = absurd cc
+expr_stays b least s.Step h = absurd cc
+expr_stays true least s.Comma h = rw h refl
+expr_stays false least s.Comma h = rw h refl
+expr_stays true least _ h = refl
+expr_stays false least _ h = refl
+
 stays : (p : Phrase) (x : Sort) → stay p x ≡ false → bars (production p) x ≡ false
-stays (Phrase.expr least) s.Assign h = absurd cc
-stays (Phrase.expr least) s.OpAssign h = absurd cc
-stays (Phrase.expr least) s.Question h = absurd cc
-stays (Phrase.expr least) s.OrOr h = absurd cc
-stays (Phrase.expr least) s.AndAnd h = absurd cc
-stays (Phrase.expr least) s.Bar h = absurd cc
-stays (Phrase.expr least) s.Caret h = absurd cc
-stays (Phrase.expr least) s.Amp h = absurd cc
-stays (Phrase.expr least) s.Equality h = absurd cc
-stays (Phrase.expr least) s.Less h = absurd cc
-stays (Phrase.expr least) s.Greater h = absurd cc
-stays (Phrase.expr least) s.OrEqual h = absurd cc
-stays (Phrase.expr least) s.Shift h = absurd cc
-stays (Phrase.expr least) s.Plus h = absurd cc
-stays (Phrase.expr least) s.Minus h = absurd cc
-stays (Phrase.expr least) s.Star h = absurd cc
-stays (Phrase.expr least) s.Divide h = absurd cc
-stays (Phrase.expr least) s.LBracket h = absurd cc
-stays (Phrase.expr least) s.LParen h = absurd cc
-stays (Phrase.expr least) s.Dot h = absurd cc
-stays (Phrase.expr least) s.Arrow h = absurd cc
-stays (Phrase.expr least) s.Step h = absurd cc
-stays (Phrase.expr least) s.Comma h = rw h refl
-stays (Phrase.expr least) _ h = refl
+stays (Phrase.expr least) x h = expr_stays (admits_cast least) least x h
 stays Phrase.opened s.Assign h = absurd cc
 stays Phrase.opened s.OpAssign h = absurd cc
 stays Phrase.opened s.Question h = absurd cc

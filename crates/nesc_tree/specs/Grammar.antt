@@ -508,11 +508,12 @@ abbrev pub if_type : {A : Type 0} → Bool → Form A → Form A → Form A
 if_type true g h = g
 if_type false g h = h
 
-abbrev pub bracketed : Sort → Form (Token → Operand)
-bracketed x = if_type (begins_type x) cast parens
+-- where no cast may stand, no type is behind `(`
+abbrev pub bracketed : Bool → Sort → Form (Token → Operand)
+bracketed may_cast x = if_type (begins_type x && may_cast) cast parens
 
-abbrev pub bracketed_expr : Form Operand
-bracketed_expr = with (one s.LParen) (Form.by bracketed)
+abbrev pub bracketed_expr : Bool → Form Operand
+bracketed_expr may_cast = with (one s.LParen) (Form.by (bracketed may_cast))
 
 -- behind `sizeof (`
 abbrev pub size_type : Form (Token → Token → Operand)
@@ -531,25 +532,26 @@ sized _ = map size_of_expr (expr level.unary)
 abbrev pub size_of : Form Operand
 size_of = with (one s.SizeOf) (Form.by sized)
 
-abbrev pub primary : Sort → Form Operand
-primary s.Word = name_leaf
-primary s.Number = number_leaf
-primary s.Char = char_leaf
-primary s.Null = null_leaf
-primary s.LParen = bracketed_expr
-primary s.Plus = signed s.Plus level.cast
-primary s.Minus = signed s.Minus level.cast
-primary s.Star = signed s.Star level.cast
-primary s.Amp = signed s.Amp level.cast
-primary s.Complement = signed s.Complement level.cast
-primary s.Step = signed s.Step level.unary
-primary s.SizeOf = size_of
-primary s.Unique = unique
-primary s.PortRead = port_read
-primary s.PortWrite = port_write
-primary s.Post = post_call
-primary s.Call = call_item
-primary _ = Form.none
+-- what an expression begins with, by its first token, where a cast may stand or may not
+abbrev pub primary : Bool → Sort → Form Operand
+primary may_cast s.Word = name_leaf
+primary may_cast s.Number = number_leaf
+primary may_cast s.Char = char_leaf
+primary may_cast s.Null = null_leaf
+primary may_cast s.LParen = bracketed_expr may_cast
+primary may_cast s.Plus = signed s.Plus level.cast
+primary may_cast s.Minus = signed s.Minus level.cast
+primary may_cast s.Star = signed s.Star level.cast
+primary may_cast s.Amp = signed s.Amp level.cast
+primary may_cast s.Complement = signed s.Complement level.cast
+primary may_cast s.Step = signed s.Step level.unary
+primary may_cast s.SizeOf = size_of
+primary may_cast s.Unique = unique
+primary may_cast s.PortRead = port_read
+primary may_cast s.PortWrite = port_write
+primary may_cast s.Post = post_call
+primary may_cast s.Call = call_item
+primary may_cast _ = Form.none
 
 -- ---- what goes on an expression
 
@@ -674,8 +676,15 @@ fits left o = nat_le (needs o) left.level
 abbrev pub somewhere : Token
 somewhere = record { kind = kind.Sign; text = codes "("; pos = record { file = 0; line = 1; col = 1 }; first = false }
 
+abbrev pub expression : Bool → ℕ → Form Operand
+expression may_cast least = Form.loop (may least) fits (λ a. a.height) (Form.by (primary may_cast)) (λ x. map grown (operation x))
+
+-- a unary expression, as the operand of `++`, begins with no cast (C99 6.5.3)
+abbrev pub admits_cast : ℕ → Bool
+admits_cast least = nat_le least level.cast
+
 abbrev pub production : (p : Phrase) → Form (Of p)
-production (Phrase.expr least) = Form.loop (may least) fits (λ a. a.height) (Form.by primary) (λ x. map grown (operation x))
+production (Phrase.expr least) = expression (admits_cast least) least
 production Phrase.type = type_form
 production Phrase.pointers = Form.seq (λ _ n. suc n) (one s.Star) stars
 production Phrase.fields = struct_fields

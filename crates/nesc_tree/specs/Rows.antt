@@ -48,6 +48,9 @@ minus = sign (codes "-")
 abbrev pub star : Token
 star = sign (codes "*")
 
+abbrev pub step : Token
+step = sign (codes "++")
+
 abbrev pub gets : Token
 gets = sign (codes "=")
 
@@ -100,6 +103,17 @@ pub record WorkedRows : Type 0 where
   pub cast : Reads (opening ∷ t ∷ closing ∷ minus ∷ a ∷ []) (e.Cast (spec (b.Named (codes "t")) 0) (e.Unary pre.Neg name start) start)
   pub no_cast : Reads (opening ∷ a ∷ closing ∷ minus ∷ a ∷ []) (e.Binary op.Sub name name start)
   pub cast_to_pointer : Reads (opening ∷ word (codes "unsigned") ∷ word (codes "long") ∷ star ∷ closing ∷ a ∷ []) (e.Cast (spec (b.Int int.U32) 1) name start)
+  -- ++ (a), ++ - a, ++ * a; behind ++ no cast begins: in ++ (t) a the type is refused, also behind sizeof
+  pub step_of_parens : Reads (step ∷ opening ∷ a ∷ closing ∷ []) (e.Unary pre.Inc name start)
+  pub step_of_sum : Reads (step ∷ opening ∷ a ∷ closing ∷ minus ∷ a ∷ []) (e.Binary op.Sub (e.Unary pre.Inc name start) name start)
+  pub step_of_sign : Reads (step ∷ minus ∷ a ∷ []) (e.Unary pre.Inc (e.Unary pre.Neg name start) start)
+  pub step_of_pointer : Reads (step ∷ star ∷ a ∷ []) (e.Unary pre.Inc (e.Unary pre.Deref name start) start)
+  pub step_of_size : Reads (step ∷ word (codes "sizeof") ∷ opening ∷ t ∷ closing ∷ []) (e.Unary pre.Inc (e.SizeOfType (spec (b.Named (codes "t")) 0) start) start)
+  pub step_of_cast : stop_of (read_in 9 (step ∷ opening ∷ t ∷ closing ∷ a ∷ [])) ≡ Some (false, 3)
+  pub step_of_keyword_cast : stop_of (read_in 9 (step ∷ opening ∷ word (codes "int") ∷ closing ∷ a ∷ [])) ≡ Some (false, 3)
+  pub size_of_step_of_cast : stop_of (read_in 9 (word (codes "sizeof") ∷ step ∷ opening ∷ t ∷ closing ∷ a ∷ [])) ≡ Some (false, 3)
+  -- ++ - (t) a: the operand of a sign may begin with one
+  pub cast_behind_sign : Reads (step ∷ minus ∷ opening ∷ t ∷ closing ∷ a ∷ []) (e.Unary pre.Inc (e.Unary pre.Neg (e.Cast (spec (b.Named (codes "t")) 0) name start) start) start)
   -- sizeof (struct { t *a, t[a]; }), sizeof (const enum a { a = a, t, })
   pub size_of_struct : Reads (word (codes "sizeof") ∷ opening ∷ word (codes "struct") ∷ sign (codes "{") ∷ t ∷ star ∷ a ∷ sign (codes ",") ∷ t ∷ sign (codes "[") ∷ a ∷ sign (codes "]") ∷ sign (codes ";") ∷ sign (codes "}") ∷ closing ∷ [])
       (e.SizeOfType (spec (b.Struct None (Some (roll-FieldGroup (record { ty = spec (b.Named (codes "t")) 0; fields = declarator (codes "a") 1 [] ∷ declarator (codes "t") 0 (name ∷ []) ∷ [] }) ∷ []))) 0) start)
