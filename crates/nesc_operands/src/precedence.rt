@@ -104,6 +104,13 @@ pub fn is_operator(operator: Sort) -> bool
     }
 }
 
+/// Whether an expression of at least this level may begin with a cast (C99 6.5.3: a unary expression does not).
+pub fn admits_cast(least: u8) -> bool
+    ensures { result ≡ grammar.admits_cast least }
+{
+    least <= level::CAST
+}
+
 /// The level of the expression that the operator makes.
 pub fn binds(operator: Sort) -> u8
     ensures { result ≡ grammar.binds operator }
