@@ -1,5 +1,5 @@
 -- What is read with at most so many levels has no more of them.
-use Rattle.std.proofs.Common.{◌≡◌, ℕ, zero, suc, max, ◌≤◌, Bool, true, false, List, [], ◌∷◌, ◌++◌, Option, Some, None, Ok, Err, IfOk, refl, arith}
+use Rattle.std.proofs.Common.{◌≡◌, ℕ, zero, suc, max, ◌≤◌, Bool, true, false, ◌&&◌, List, [], ◌∷◌, ◌++◌, Option, Some, None, Ok, Err, IfOk, refl, arith}
 use Rattle.nm_base.specs.declared.token.Token.{Token}
 use Rattle.nesc_tree.specs.declared.sorts.Sort.{Sort}
 use Rattle.nesc_tree.specs.declared.sorts.Sort.TheVariants as s
@@ -244,29 +244,29 @@ module _ (d : ℕ) (nested : (p : Phrase) → Reader (Of p)) (N : (p : Phrase) (
       (k.by d nested (λ f. (p o : Token) → Next (f p o)) grammar.size_bracketed (λ x. size_bracketed (begins_type x))) (λ p f u h. h p)
   sized _ = mapped Low From grammar.size_of_expr (expr level.unary) (nested_expr level.unary) (λ a h o. omega arith)
 
-  primary : (x : Sort) → Keeps Next (grammar.primary x)
-  primary s.Word = leaf _ _ (λ a. refl)
-  primary s.Number = leaf _ _ (λ a. refl)
-  primary s.Char = leaf _ _ (λ a. refl)
-  primary s.Null = leaf _ _ (λ a. refl)
-  primary s.LParen =
-      k.seq d nested Any From Next _ _ (Form.by grammar.bracketed) (k.any d nested _) (k.by d nested From grammar.bracketed (λ x. bracketed (begins_type x))) (λ o f u h. h o)
-  primary s.Plus = signed s.Plus level.cast
-  primary s.Minus = signed s.Minus level.cast
-  primary s.Star = signed s.Star level.cast
-  primary s.Amp = signed s.Amp level.cast
-  primary s.Complement = signed s.Complement level.cast
-  primary s.Step = signed s.Step level.unary
-  primary s.SizeOf = k.seq d nested Any From Next _ _ (Form.by grammar.sized) (k.any d nested _) (k.by d nested From grammar.sized sized) (λ o f u h. h o)
-  primary s.Unique = k.seq d nested Any Any Next _ _ _ (k.any d nested _) (k.any d nested _) (λ o t u v. omega arith)
-  primary s.PortRead = k.seq d nested Any Low Next _ _ _ (k.any d nested _) (behind Low _ _ (before Low _ _ (nested_expr level.conditional))) (λ o a u h. omega arith)
-  primary s.PortWrite =
+  primary : (may_cast : Bool) (x : Sort) → Keeps Next (grammar.primary may_cast x)
+  primary may_cast s.Word = leaf _ _ (λ a. refl)
+  primary may_cast s.Number = leaf _ _ (λ a. refl)
+  primary may_cast s.Char = leaf _ _ (λ a. refl)
+  primary may_cast s.Null = leaf _ _ (λ a. refl)
+  primary may_cast s.LParen =
+      k.seq d nested Any From Next _ _ (Form.by (grammar.bracketed may_cast)) (k.any d nested _) (k.by d nested From (grammar.bracketed may_cast) (λ x. bracketed (begins_type x && may_cast))) (λ o f u h. h o)
+  primary may_cast s.Plus = signed s.Plus level.cast
+  primary may_cast s.Minus = signed s.Minus level.cast
+  primary may_cast s.Star = signed s.Star level.cast
+  primary may_cast s.Amp = signed s.Amp level.cast
+  primary may_cast s.Complement = signed s.Complement level.cast
+  primary may_cast s.Step = signed s.Step level.unary
+  primary may_cast s.SizeOf = k.seq d nested Any From Next _ _ (Form.by grammar.sized) (k.any d nested _) (k.by d nested From grammar.sized sized) (λ o f u h. h o)
+  primary may_cast s.Unique = k.seq d nested Any Any Next _ _ _ (k.any d nested _) (k.any d nested _) (λ o t u v. omega arith)
+  primary may_cast s.PortRead = k.seq d nested Any Low Next _ _ _ (k.any d nested _) (behind Low _ _ (before Low _ _ (nested_expr level.conditional))) (λ o a u h. omega arith)
+  primary may_cast s.PortWrite =
       k.seq d nested Any From Next _ _ grammar.port_and_value (k.any d nested _)
       (k.seq d nested Low Low From _ _ _ (behind Low _ _ (before Low _ _ (nested_expr level.conditional))) (before Low _ _ (nested_expr level.assignment)) (λ a v h w o. omega arith))
       (λ o f u h. h o)
-  primary s.Post = k.seq d nested Any Any Next _ _ _ (k.any d nested _) (k.any d nested _) (λ o t u v. omega arith)
-  primary s.Call = call_item
-  primary _ = k.none d nested Next
+  primary may_cast s.Post = k.seq d nested Any Any Next _ _ _ (k.any d nested _) (k.any d nested _) (λ o t u v. omega arith)
+  primary may_cast s.Call = call_item
+  primary may_cast _ = k.none d nested Next
 
   abbrev Grows : Growth → Type 0
   Grows g = g.height ≤ d
@@ -309,7 +309,7 @@ module _ (d : ℕ) (nested : (p : Phrase) → Reader (Of p)) (N : (p : Phrase) (
 
   production_fits : (p : Phrase) → Keeps (Fits (suc d) p) (production p)
   production_fits (Phrase.expr least) =
-      k.loop d nested Next (grammar.may least) grammar.fits (λ a. a.height) (Form.by grammar.primary) _ (k.by d nested Next grammar.primary primary)
+      k.loop d nested Next (grammar.may least) grammar.fits (λ a. a.height) (Form.by (grammar.primary (grammar.admits_cast least))) _ (k.by d nested Next (grammar.primary (grammar.admits_cast least)) (primary (grammar.admits_cast least)))
       (λ x. mapped Grows (λ f. (a : Operand) → a.height ≤ d → Next a → Next (f a)) grammar.grown (grammar.operation x) (operation x) (λ g h a w u. omega arith))
   production_fits Phrase.opened =
       k.loop d nested (Fits (suc d) Phrase.opened) _ _ _ grammar.parens _ parens
