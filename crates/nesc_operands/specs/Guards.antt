@@ -2,7 +2,7 @@
 use Rattle.std.specs.Prelude.{Bool, true, false}
 use Rattle.nesc_tree.specs.declared.sorts.Sort.{Sort}
 use Rattle.nesc_tree.specs.declared.sorts.Sort.TheVariants as s
-use Rattle.nesc_tree.specs.Grammar.{is_operator}
+use Rattle.nesc_grammar.specs.Grammar.{is_operator}
 
 -- whether each operand that begins with the token has another one in it
 abbrev pub nests_first : Sort → Bool

@@ -6,7 +6,7 @@ use Rattle.nesc_tree.specs.declared.operand.Operand.{Operand}
 use Rattle.nesc_tree.specs.Level as level
 use Rattle.nesc_tree.specs.declared.sorts.Sort.TheVariants as s
 use Rattle.nesc_tree.specs.Form.{Form}
-use Rattle.nesc_tree.specs.Grammar.{operand, map, behind, one, expr, growth, grown}
+use Rattle.nesc_grammar.specs.Grammar.{operand, map, behind, one, expr, growth, grown}
 
 abbrev pub port_read : Token → Operand → Operand
 port_read o a = operand (e.PortRead a.expr o.pos) o.pos level.postfix (suc a.height)

@@ -1,7 +1,7 @@
 -- What a table gives for the spelling of a token.
 use Rattle.std.specs.Prelude.{ℕ, if◌then◌else◌, List, [], ◌∷◌}
 use Rattle.nm_base.specs.declared.token.Token.{Token}
-use Rattle.nesc_tree.specs.Grammar.{spelled}
+use Rattle.nesc_grammar.specs.Grammar.{spelled}
 
 abbrev pub row_of : {A : Type 0} → List (List ℕ × A) → Token → A → A
 row_of [] token other = other

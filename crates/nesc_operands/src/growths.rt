@@ -3,7 +3,7 @@
 ghost use Rattle.std.specs.Prelude.{◌≡◌, ◌<◌, ◌^◌, IfOk, Option, None, Some, max, [], ◌∷◌, ◌++◌};
 ghost use Rattle.nesc_tree.specs.declared.tree.Expr.TheVariants as e;
 ghost use Rattle.nesc_tree.specs.Level as levels;
-ghost use Rattle.nesc_tree.specs.Grammar as spec;
+ghost use Rattle.nesc_grammar.specs.Grammar as spec;
 ghost use Rattle.nesc_operands.specs.Operands as made;
 
 use crate::boxes::boxed_pair;
@@ -218,7 +218,7 @@ fn param_value(alloc: Global, param: Option<Operand>) -> Result<Option<Boxed<Exp
 }
 
 /// Whether the word is `signal`, and not `call`.
-#[tactic(auto, unfolding(nesc_tree::specs::Grammar::is_signal))]
+#[tactic(auto, unfolding(nesc_grammar::specs::Grammar::is_signal))]
 fn is_signal(word: &Token) -> bool
     ensures { result ≡ spec.is_signal word.now }
 {

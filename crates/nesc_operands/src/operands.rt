@@ -3,7 +3,7 @@
 ghost use Rattle.std.specs.Prelude.{◌≡◌, ◌<◌, ◌^◌, IfOk, Option, None, Some, suc, max};
 ghost use Rattle.nesc_tree.specs.declared.tree.Expr.TheVariants as e;
 ghost use Rattle.nesc_tree.specs.Level as levels;
-ghost use Rattle.nesc_tree.specs.Grammar as spec;
+ghost use Rattle.nesc_grammar.specs.Grammar as spec;
 ghost use Rattle.nesc_operands.specs.Operands as made;
 
 use crate::boxes::boxed_pair;
@@ -54,7 +54,7 @@ pub fn null_operand(token: &Token) -> Operand
 }
 
 /// `unique` or `uniqueCount` of a text.
-#[tactic(auto, unfolding(nesc_tree::specs::Grammar::unique_expr))]
+#[tactic(auto, unfolding(nesc_grammar::specs::Grammar::unique_expr))]
 pub fn unique_operand(alloc: Global, word: &Token, text: &Token) -> Result<Operand, NoMemory>
     ensures { IfOk result (λ a. a ≡ spec.leaf_operand (spec.unique_expr word.now text.now) word.now) }
 {

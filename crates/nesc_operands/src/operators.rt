@@ -1,7 +1,7 @@
 //! Operators by their spelling.
 
 ghost use Rattle.std.specs.Prelude.{◌≡◌, bytes_eq, map};
-ghost use Rattle.nesc_tree.specs.Grammar as grammar;
+ghost use Rattle.nesc_grammar.specs.Grammar as grammar;
 ghost use Rattle.nesc_operands.specs.Spelling.{row_of};
 
 use nesc_tree::{InOp, PostOp, PreOp};
@@ -74,7 +74,7 @@ pub fn row_of<T: Copy>(rows: &[(&[u8], T)], token: &Token, other: T) -> T
 }
 
 /// The operator between two operands.
-#[tactic(auto, unfolding(nesc_tree::specs::Grammar::infix_of))]
+#[tactic(auto, unfolding(nesc_grammar::specs::Grammar::infix_of))]
 pub fn infix_of(token: &Token) -> InOp
     ensures { result ≡ grammar.infix_of token.now }
 {
@@ -82,7 +82,7 @@ pub fn infix_of(token: &Token) -> InOp
 }
 
 /// The operator of an assignment; none is that of `=`.
-#[tactic(auto, unfolding(nesc_tree::specs::Grammar::assignment_of))]
+#[tactic(auto, unfolding(nesc_grammar::specs::Grammar::assignment_of))]
 pub fn assignment_of(token: &Token) -> Option<InOp>
     ensures { result ≡ grammar.assignment_of token.now }
 {
@@ -90,7 +90,7 @@ pub fn assignment_of(token: &Token) -> Option<InOp>
 }
 
 /// The operator before an operand.
-#[tactic(auto, unfolding(nesc_tree::specs::Grammar::prefix_of))]
+#[tactic(auto, unfolding(nesc_grammar::specs::Grammar::prefix_of))]
 pub fn prefix_of(token: &Token) -> PreOp
     ensures { result ≡ grammar.prefix_of token.now }
 {
@@ -98,7 +98,7 @@ pub fn prefix_of(token: &Token) -> PreOp
 }
 
 /// The operator behind an operand.
-#[tactic(auto, unfolding(nesc_tree::specs::Grammar::suffix_of))]
+#[tactic(auto, unfolding(nesc_grammar::specs::Grammar::suffix_of))]
 pub fn suffix_of(token: &Token) -> PostOp
     ensures { result ≡ grammar.suffix_of token.now }
 {

@@ -3,7 +3,7 @@
 ghost use Rattle.std.specs.Prelude.{◌≡◌};
 ghost use Rattle.nesc_tree.specs.Form.{goes};
 ghost use Rattle.nesc_tree.specs.Phrase as phrase;
-ghost use Rattle.nesc_tree.specs.Grammar as grammar;
+ghost use Rattle.nesc_grammar.specs.Grammar as grammar;
 ghost use Rattle.nesc_operands.specs.Guards as guards;
 
 use nesc_tree::{Operand, Sort, level};

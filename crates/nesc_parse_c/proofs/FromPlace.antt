@@ -7,9 +7,9 @@ use Rattle.nm_base.specs.declared.token.Token.{Token}
 use Rattle.nesc_tree.specs.Sorts.{Names}
 use Rattle.nesc_tree.specs.Phrase.{Phrase, Of}
 use Rattle.nesc_tree.specs.Reading.{Fault, Syntax, Deep, Answer}
-use Rattle.nesc_tree.specs.Reach.{SpelledIn, BeginsIn, IsReach, IsTooDeep}
-use Rattle.nesc_tree.specs.Laws.{answer, left_by, Reached}
-use Rattle.nesc_tree.proofs.Reach.{reach}
+use Rattle.nesc_grammar.specs.Reach.{SpelledIn, BeginsIn, IsReach, IsTooDeep}
+use Rattle.nesc_grammar.specs.Laws.{answer, left_by, Reached}
+use Rattle.nesc_grammar.proofs.Reach.{reach}
 use Rattle.nesc_parse_c.specs.declared.probes.Wanted.{Wanted}
 use Rattle.nesc_parse_c.specs.declared.probes.Wanted.TheVariants as wanted
 use Rattle.nesc_parse_types.specs.Gives.{place}

@@ -11,8 +11,8 @@ use Rattle.nesc_tree.specs.declared.operand.CastType.{CastType}
 use Rattle.nesc_tree.specs.Sorts.{Names}
 use Rattle.nesc_tree.specs.Phrase.{Phrase, Of}
 use Rattle.nesc_tree.specs.Reading.{Fault, Syntax, Deep, Answer, phrase}
-use Rattle.nesc_tree.specs.Reach.{BeginsIn}
-use Rattle.nesc_tree.specs.Grammar as grammar
+use Rattle.nesc_grammar.specs.Reach.{BeginsIn}
+use Rattle.nesc_grammar.specs.Grammar as grammar
 use Rattle.nesc_parse_types.specs.declared.stop.Stop.{Stop}
 use Rattle.nesc_parse_c.specs.declared.probes.Wanted.{Wanted}
 use Rattle.nesc_parse_types.specs.Gives.{Fails, form_in, place}

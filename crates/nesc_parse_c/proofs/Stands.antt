@@ -4,7 +4,7 @@ use Rattle.nm_base.specs.declared.token.Token.{Token}
 use Rattle.nm_base.specs.declared.no_memory.NoMemory.{NoMemory}
 use Rattle.nesc_tree.specs.Sorts.{Names}
 use Rattle.nesc_tree.specs.Reading.{Answer}
-use Rattle.nesc_tree.specs.Reach.{Begins, BeginsIn}
+use Rattle.nesc_grammar.specs.Reach.{Begins, BeginsIn}
 use Rattle.nesc_parse_types.specs.Gives.{Found, Gives}
 use Rattle.nesc_parse_c.specs.declared.probes.Wanted.{Wanted}
 use Rattle.nesc_parse_c.specs.Parsed.{most}

@@ -5,9 +5,9 @@ use Rattle.nm_base.specs.declared.token.Token.{Token}
 use Rattle.nesc_tree.specs.Sorts.{Names}
 use Rattle.nesc_tree.specs.Phrase.{Phrase, Of, fits_one_level}
 use Rattle.nesc_tree.specs.Reading.{Fault, Syntax, Deep, Answer}
-use Rattle.nesc_tree.specs.Reach.{SpelledIn, BeginsIn, Begins, IsTooDeep}
-use Rattle.nesc_tree.specs.Laws.{answer, left_by, Reached}
-use Rattle.nesc_tree.proofs.Reach.{reach, probe_tells}
+use Rattle.nesc_grammar.specs.Reach.{SpelledIn, BeginsIn, Begins, IsTooDeep}
+use Rattle.nesc_grammar.specs.Laws.{answer, left_by, Reached}
+use Rattle.nesc_grammar.proofs.Reach.{reach, probe_tells}
 use Rattle.nesc_parse_c.specs.declared.probes.Wanted.{Wanted}
 use Rattle.nesc_parse_c.specs.declared.probes.Wanted.TheVariants as wanted
 use Rattle.nesc_parse_c.specs.Parsed.{most}

@@ -10,9 +10,9 @@ use Rattle.nesc_tree.specs.declared.sorts.Sort.{Sort}
 use Rattle.nesc_tree.specs.declared.sorts.Sort.TheVariants as s
 pub use Rattle.nesc_tree.specs.Sorts.{sort}
 use Rattle.nesc_tree.specs.Sorts.{Names}
-use Rattle.nesc_tree.specs.Grammar.{somewhere, spelled}
+use Rattle.nesc_grammar.specs.Grammar.{somewhere, spelled}
 use Rattle.nesc_tree.specs.Phrase.{Phrase}
-use Rattle.nesc_tree.specs.Reach.{Begins}
+use Rattle.nesc_grammar.specs.Reach.{Begins}
 use Rattle.nesc_parse_c.specs.declared.left.Place.{Place}
 use Rattle.nesc_parse_c.specs.declared.left.Place.TheVariants as p
 use Rattle.nesc_operands.specs.Spelling.{row_of}

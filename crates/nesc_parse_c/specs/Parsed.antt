@@ -9,7 +9,7 @@ use Rattle.nm_base.specs.declared.refusal.Refusal.TheVariants as r
 use Rattle.nm_base.specs.declared.limit.Which.TheVariants as w
 use Rattle.nesc_tree.specs.Sorts.{Names}
 use Rattle.nesc_tree.specs.Phrase.{Phrase, Of}
-use Rattle.nesc_tree.specs.Reach.{SpelledIn, Spelled, BeginsIn, IsReach, IsTooDeep}
+use Rattle.nesc_grammar.specs.Reach.{SpelledIn, Spelled, BeginsIn, IsReach, IsTooDeep}
 use Rattle.nesc_parse_c.specs.declared.left.Place.{Place}
 use Rattle.nesc_parse_c.specs.Left.{row, IsMeant}
 

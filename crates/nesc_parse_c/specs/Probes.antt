@@ -6,8 +6,8 @@ use Rattle.nesc_tree.specs.Sorts.{Names}
 use Rattle.nesc_tree.specs.Phrase.{Phrase, Of}
 use Rattle.nesc_tree.specs.Level as level
 use Rattle.nesc_tree.specs.Reading.{Syntax, Deep, Answer}
-use Rattle.nesc_tree.specs.Laws.{answer}
-use Rattle.nesc_tree.specs.Reach.{BeginsIn}
+use Rattle.nesc_grammar.specs.Laws.{answer}
+use Rattle.nesc_grammar.specs.Reach.{BeginsIn}
 use Rattle.nesc_parse_c.specs.declared.probes.Wanted.{Wanted}
 use Rattle.nesc_parse_c.specs.declared.probes.Wanted.TheVariants as wanted
 use Rattle.nesc_parse_c.specs.declared.left.Place.{Place}

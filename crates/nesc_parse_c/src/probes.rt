@@ -2,7 +2,7 @@
 
 ghost use Rattle.std.specs.Prelude.{◌≡◌, IfOk, [], ◌∷◌, ◌++◌};
 ghost use Rattle.nm_base.specs.declared.token.Token.{Token};
-ghost use Rattle.nesc_tree.specs.Reach.{Begins, BeginsIn};
+ghost use Rattle.nesc_grammar.specs.Reach.{Begins, BeginsIn};
 ghost use Rattle.nesc_tree.specs.Reading.{Answer};
 ghost use Rattle.nesc_tree.specs.Sorts.{Names};
 ghost use Rattle.nesc_parse_types.specs.Gives.{Gives};

@@ -10,8 +10,9 @@ use Rattle.nesc_tree.specs.Sorts.{Names, ahead}
 use Rattle.nesc_tree.specs.Phrase.{Phrase, begins_expr, begins}
 use Rattle.nesc_tree.specs.Form.{Form, Place, goes, starts, next}
 use Rattle.nesc_tree.specs.Reading.{Fault, Syntax, Deep, Answer, read, phrase, pass, turns, stop, guarded, nests, short, ◌>>=◌}
-use Rattle.nesc_tree.specs.Grammar as grammar
-use Rattle.nesc_tree.specs.Grammar.{production, Growth, applied, map, grown, operation, may, fits, needs, somewhere, paren_operand}
+use Rattle.nesc_grammar.specs.Grammar as grammar
+use Rattle.nesc_grammar.specs.Grammar.{Growth, applied, map, grown, operation, may, fits, needs, somewhere, paren_operand}
+use Rattle.nesc_grammar.specs.Production.{production}
 use Rattle.nesc_parse_types.specs.declared.stop.Stop.{Stop}
 use Rattle.nesc_parse_types.specs.declared.stop.Stop.TheVariants as rust
 use Rattle.nesc_parse_types.specs.Gives.{Fails, form_in, expr_in, opened_in, fields_in, place}

@@ -8,8 +8,9 @@ use Rattle.nesc_tree.specs.Sorts.{Names, ahead}
 use Rattle.nesc_tree.specs.Phrase.{Phrase}
 use Rattle.nesc_tree.specs.Form.{Form, Place, goes, starts, next}
 use Rattle.nesc_tree.specs.Reading.{Fault, Syntax, Deep, Answer, read, phrase, guarded, nests, short, ◌>>=◌}
-use Rattle.nesc_tree.specs.Grammar.{production, applied, map, grown, operation, is_operator, may, fits, binds}
-use Rattle.nesc_tree.proofs.Instance.{all_fine}
+use Rattle.nesc_grammar.specs.Grammar.{applied, map, grown, operation, is_operator, may, fits, binds}
+use Rattle.nesc_grammar.specs.Production.{production}
+use Rattle.nesc_grammar.proofs.Instance.{all_fine}
 use Rattle.nesc_parse_types.specs.declared.stop.Stop.{Stop}
 use Rattle.nesc_parse_types.specs.declared.stop.Stop.TheVariants as rust
 use Rattle.nesc_parse_types.specs.Gives.{Fails, form_in, place}

@@ -12,8 +12,9 @@ use Rattle.nesc_tree.specs.Sorts.{Names, ahead}
 use Rattle.nesc_tree.specs.Phrase.{Phrase, begins, begins_expr, begins_type}
 use Rattle.nesc_tree.specs.Form.{Form, Place, next, either, starts}
 use Rattle.nesc_tree.specs.Reading.{Fault, Syntax, Deep, Answer, read, phrase, pass, stop, short, nests, guarded, ◌>>=◌}
-use Rattle.nesc_tree.specs.Grammar as grammar
-use Rattle.nesc_tree.specs.Grammar.{production, applied, one, with, map, grown, operation, is_operator, if_type}
+use Rattle.nesc_grammar.specs.Grammar as grammar
+use Rattle.nesc_grammar.specs.Grammar.{applied, one, with, map, grown, operation, is_operator, if_type}
+use Rattle.nesc_grammar.specs.Production.{production}
 use Rattle.nesc_parse_types.specs.declared.stop.Stop.{Stop}
 use Rattle.nesc_parse_types.specs.declared.stop.Stop.TheVariants as rust
 use Rattle.nesc_parse_types.specs.Gives.{Fails, form_in, expr_in, opened_in, place}

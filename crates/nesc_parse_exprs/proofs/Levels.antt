@@ -7,8 +7,8 @@ use Rattle.nesc_tree.specs.declared.sorts.Sort.{Sort}
 use Rattle.nesc_tree.specs.Sorts.{Names, ahead}
 use Rattle.nesc_tree.specs.Phrase.{Phrase, begins_expr, begins}
 use Rattle.nesc_tree.specs.Reading.{Answer, Syntax, Deep, stop}
-use Rattle.nesc_tree.specs.Grammar as grammar
-use Rattle.nesc_tree.specs.Grammar.{production}
+use Rattle.nesc_grammar.specs.Grammar as grammar
+use Rattle.nesc_grammar.specs.Production.{production}
 use Rattle.nesc_parse_types.specs.declared.stop.Stop.{Stop}
 use Rattle.nesc_parse_types.specs.declared.stop.Stop.TheVariants as rust
 use Rattle.nesc_parse_types.specs.Gives.{Fails, Found, Gives, form_in, expr_in, opened_in, fields_in}

@@ -9,7 +9,7 @@ use Rattle.nesc_tree.specs.declared.sorts.Sort.{Sort}
 use Rattle.nesc_tree.specs.Sorts.{Names, ahead}
 use Rattle.nesc_tree.specs.Form.{Form, Place}
 use Rattle.nesc_tree.specs.Reading.{Fault, Syntax, Deep, Answer, read, phrase, guarded, ◌>>=◌}
-use Rattle.nesc_tree.specs.Grammar.{production}
+use Rattle.nesc_grammar.specs.Production.{production}
 use Rattle.nesc_parse_types.specs.declared.stop.Stop.{Stop}
 use Rattle.nesc_parse_types.specs.declared.stop.Stop.TheVariants as rust
 use Rattle.nesc_parse_types.specs.Gives.{Fails, Found, Gives, place}

@@ -6,7 +6,8 @@ use Rattle.nesc_tree.specs.Sorts.{Names, ahead}
 use Rattle.nesc_tree.specs.Phrase.{Phrase}
 use Rattle.nesc_tree.specs.Form.{Form}
 use Rattle.nesc_tree.specs.Reading.{Deep, Answer}
-use Rattle.nesc_tree.specs.Grammar.{Growth, applied, map, grown, operation, production}
+use Rattle.nesc_grammar.specs.Grammar.{Growth, applied, map, grown, operation}
+use Rattle.nesc_grammar.specs.Production.{production}
 use Rattle.nesc_parse_exprs.specs.Turns.{turn_in}
 
 -- the operand, grown by what the form reads

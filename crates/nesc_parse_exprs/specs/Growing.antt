@@ -10,8 +10,8 @@ use Rattle.nesc_tree.specs.Level as level
 use Rattle.nesc_tree.specs.Sorts.{Names}
 use Rattle.nesc_tree.specs.Form.{Form}
 use Rattle.nesc_tree.specs.Reading.{Answer}
-use Rattle.nesc_tree.specs.Grammar as grammar
-use Rattle.nesc_tree.specs.Grammar.{Growth, growth}
+use Rattle.nesc_grammar.specs.Grammar as grammar
+use Rattle.nesc_grammar.specs.Grammar.{Growth, growth}
 use Rattle.nesc_parse_types.specs.Gives.{Fails, Found}
 use Rattle.nesc_parse_exprs.specs.declared.growing.Growing.{Growing}
 use Rattle.nesc_parse_exprs.specs.declared.growing.Growing.TheVariants as g

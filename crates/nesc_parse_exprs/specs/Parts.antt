@@ -6,7 +6,7 @@ use Rattle.nesc_tree.specs.declared.operand.Arguments.{Arguments}
 use Rattle.nesc_tree.specs.declared.sorts.Sort.TheVariants as s
 use Rattle.nesc_tree.specs.Level as level
 use Rattle.nesc_tree.specs.Form.{Form}
-use Rattle.nesc_tree.specs.Grammar as grammar
+use Rattle.nesc_grammar.specs.Grammar as grammar
 
 abbrev pub another_argument : Form (Arguments → Arguments)
 another_argument = grammar.map grammar.pushed (grammar.behind (grammar.one s.Comma) (grammar.expr level.assignment))

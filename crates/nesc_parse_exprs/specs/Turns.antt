@@ -6,7 +6,8 @@ use Rattle.nesc_tree.specs.declared.sorts.Sort.{Sort}
 use Rattle.nesc_tree.specs.Sorts.{Names}
 use Rattle.nesc_tree.specs.Form.{Form, goes}
 use Rattle.nesc_tree.specs.Reading.{Deep, Answer, read, phrase, turns, guarded, ◌>>=◌}
-use Rattle.nesc_tree.specs.Grammar.{production, map, grown, operation, may, fits}
+use Rattle.nesc_grammar.specs.Grammar.{map, grown, operation, may, fits}
+use Rattle.nesc_grammar.specs.Production.{production}
 use Rattle.nesc_parse_types.specs.Gives.{Found, Gives, form_in, place}
 
 -- a turn that goes on from the value

@@ -2,7 +2,8 @@
 
 ghost use Rattle.std.specs.Prelude.{◌≡◌};
 ghost use Rattle.nesc_tree.specs.Phrase as phrase;
-ghost use Rattle.nesc_tree.specs.Grammar as grammar;
+ghost use Rattle.nesc_grammar.specs.Grammar as grammar;
+ghost use Rattle.nesc_grammar.specs.Production.{production};
 ghost use Rattle.nesc_parse_types.specs.Gives.{Gives, Nests, form_in};
 ghost use Rattle.nesc_parse_exprs.specs.Climbing.{opened_form};
 
@@ -26,7 +27,7 @@ impl<
     /// An expression of at least this level.
     pub fn expr_of(&self, least: u8, ts: &'a [Token]) -> Found<'a, Operand>
         requires nests { Nests self.now.reader.spare (E.pre self.now.reader.expr) (E.post self.now.reader.expr) (O.pre self.now.reader.opened) (O.post self.now.reader.opened) (F.pre self.now.reader.fields) (F.post self.now.reader.fields) }
-        ensures { Gives self.now.reader.names.now result (form_in self.now.reader.spare (grammar.production (phrase.Phrase.expr least)) self.now.reader.names.now ts.now) }
+        ensures { Gives self.now.reader.names.now result (form_in self.now.reader.spare (production (phrase.Phrase.expr least)) self.now.reader.names.now ts.now) }
     {
         let (first, rest) = self.primary(ts)?;
         self.climb(least, first, rest)

@@ -1,7 +1,7 @@
 //! What stands behind an operand and makes a longer one of it.
 
 ghost use Rattle.std.specs.Prelude.{◌≡◌, ◌<◌, ◌^◌, IfOk};
-ghost use Rattle.nesc_tree.specs.Grammar as grammar;
+ghost use Rattle.nesc_grammar.specs.Grammar as grammar;
 ghost use Rattle.nesc_parse_exprs.specs.Growing.{growth_of};
 
 use nesc_operands::growths::{

@@ -1,7 +1,7 @@
 //! Operands of tokens alone.
 
 ghost use Rattle.std.specs.Prelude.{ℕ};
-ghost use Rattle.nesc_tree.specs.Grammar as grammar;
+ghost use Rattle.nesc_grammar.specs.Grammar as grammar;
 ghost use Rattle.nesc_parse_types.specs.Gives.{Gives, form_in};
 
 use nesc_operands::operands::{

@@ -8,4 +8,4 @@ mod operations;
 mod phrases;
 mod primaries;
 
-pub use phrases::{expr, fields, opened, type_form};
+pub use phrases::{expr, fields, opened, refused, type_form};

@@ -2,7 +2,7 @@
 
 ghost use Rattle.std.specs.Prelude.{◌≡◌, ◌≤◌, ◌<◌, ◌^◌, IfOk, true, suc, length};
 ghost use Rattle.nesc_tree.specs.Sorts as sorts;
-ghost use Rattle.nesc_tree.specs.Grammar as grammar;
+ghost use Rattle.nesc_grammar.specs.Grammar as grammar;
 ghost use Rattle.nesc_parse_types.specs.Gives.{Gives, Nests, form_in};
 ghost use Rattle.nesc_parse_exprs.specs.Growing as growing;
 ghost use Rattle.nesc_parse_exprs.specs.Growing.{GivesGrowth, growth_of};

@@ -2,7 +2,7 @@
 
 ghost use Rattle.std.specs.Prelude.{◌≡◌, ◌≤◌, ◌<◌, ◌^◌, IfOk, true};
 ghost use Rattle.nesc_tree.specs.Form as form;
-ghost use Rattle.nesc_tree.specs.Grammar as grammar;
+ghost use Rattle.nesc_grammar.specs.Grammar as grammar;
 ghost use Rattle.nesc_parse_types.specs.Gives.{Gives, Nests, form_in};
 ghost use Rattle.nesc_operands.specs.Guards as guards;
 ghost use Rattle.nesc_parse_exprs.specs.Parts as parts;

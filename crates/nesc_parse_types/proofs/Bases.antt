@@ -9,7 +9,8 @@ use Rattle.nesc_tree.specs.Sorts.{Names, ahead, same_sort}
 use Rattle.nesc_tree.specs.Phrase.{Phrase, begins}
 use Rattle.nesc_tree.specs.Form.{Form, Place, next, either, starts}
 use Rattle.nesc_tree.specs.Reading.{Fault, Syntax, Deep, Answer, read, phrase, pass, stop, short, guarded, ◌>>=◌}
-use Rattle.nesc_tree.specs.Grammar.{production, applied, one, with, some_fields, struct_of, untagged_struct, tagged_struct, struct_base, enum_of, untagged_enum, tagged_enum, enum_base}
+use Rattle.nesc_grammar.specs.Grammar.{applied, one, with, some_fields, struct_of, untagged_struct, tagged_struct, struct_base, enum_of, untagged_enum, tagged_enum, enum_base}
+use Rattle.nesc_grammar.specs.Production.{production}
 use Rattle.nesc_parse_types.specs.declared.stop.Stop.{Stop}
 use Rattle.nesc_parse_types.specs.declared.stop.Stop.TheVariants as rust
 use Rattle.nesc_parse_types.specs.Gives.{Fails, form_in, fields_in, place}

@@ -17,8 +17,9 @@ use Rattle.nesc_tree.specs.Sorts.{Names}
 use Rattle.nesc_tree.specs.Phrase.{Phrase, Of, begins_type}
 use Rattle.nesc_tree.specs.Form.{Form, Place}
 use Rattle.nesc_tree.specs.Reading.{Reader, Answer, phrase, ◌>>=◌}
-use Rattle.nesc_tree.specs.Grammar as grammar
-use Rattle.nesc_tree.specs.Grammar.{production, Growth, expr, somewhere}
+use Rattle.nesc_grammar.specs.Grammar as grammar
+use Rattle.nesc_grammar.specs.Grammar.{Growth, expr, somewhere}
+use Rattle.nesc_grammar.specs.Production.{production}
 use Rattle.nesc_parse_types.specs.Gives.{Found, Gives, form_in, place}
 use Rattle.nesc_parse_types.proofs.Kept.{Given, Kept}
 use Rattle.nesc_parse_types.proofs.Kept as k
@@ -30,6 +31,7 @@ Fits d Phrase.opened f = (o : Token) → ((f o).height ≤ d) × ((f o).height �
 Fits d Phrase.fields f = f.height ≤ d
 Fits d Phrase.pointers n = n ≤ d
 Fits d Phrase.type t = t.height ≤ d
+Fits d _ a = Unit {0}
 
 abbrev pub Any : {A : Type 0} → A → Type 0
 Any a = Unit {0}
@@ -99,11 +101,15 @@ module _ (d : ℕ) (nested : (p : Phrase) → Reader (Of p)) (N : (p : Phrase) (
   pub items : Keeps Short grammar.items
   items =
       k.loop d nested Short grammar.is_comma grammar.not_ended (λ _. 0) (grammar.map grammar.first_item grammar.item) _ (mapped (λ m. m.height ≤ d) Short grammar.first_item grammar.item item (λ m h. h))
-      (λ x. mapped (If (λ m. m.height ≤ d)) (λ f. (a : Items) → 0 ≤ d → Short a → Short (f a)) grammar.more_items _ (behind (If (λ m. m.height ≤ d)) _ _ (some (λ m. m.height ≤ d) grammar.item item)) more)
+      (λ x. turn (grammar.is_comma x))
     where
       more : (m : Option Item) → If (λ m. m.height ≤ d) m → (l : Items) → 0 ≤ d → Short l → Short (grammar.more_items m l)
       more None h l z w = w
       more (Some m) h l z w = omega arith
+
+      turn : (b : Bool) → Keeps (λ f. (a : Items) → 0 ≤ d → Short a → Short (f a)) (grammar.when b grammar.another_item)
+      turn true = mapped (If (λ m. m.height ≤ d)) (λ f. (a : Items) → 0 ≤ d → Short a → Short (f a)) grammar.more_items _ (behind (If (λ m. m.height ≤ d)) _ _ (some (λ m. m.height ≤ d) grammar.item item)) more
+      turn false = k.none d nested _
 
   pub braced_items : Keeps Short grammar.braced_items
   braced_items = behind Short _ _ (before Short _ _ items)
@@ -318,6 +324,7 @@ module _ (d : ℕ) (nested : (p : Phrase) → Reader (Of p)) (N : (p : Phrase) (
   production_fits Phrase.fields = struct_fields
   production_fits Phrase.pointers = k.seq d nested Any (λ n. n ≤ d) (λ n. n ≤ suc d) _ _ grammar.stars (k.any d nested _) stars (λ t n u h. omega arith)
   production_fits Phrase.type = k.weaker d nested Flat (Fits (suc d) Phrase.type) grammar.type_form (λ t h. omega arith) type_form
+  production_fits p = k.any d nested (production p)
 
 pub phrase_fits : (d : ℕ) (k : Phrase) (p : Place) → Given (Fits d k) (phrase production d k p)
 unfolding phrase

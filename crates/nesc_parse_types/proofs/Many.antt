@@ -8,10 +8,11 @@ use Rattle.nesc_tree.specs.declared.sorts.Sort.{Sort}
 use Rattle.nesc_tree.specs.Sorts.{Names, ahead}
 use Rattle.nesc_tree.specs.Form.{Form, Place, starts, goes}
 use Rattle.nesc_tree.specs.Reading.{Fault, Syntax, Deep, Answer, read, phrase, turns, guarded, nests, stop, ◌>>=◌}
-use Rattle.nesc_tree.specs.Grammar.{production, applied, map}
+use Rattle.nesc_grammar.specs.Grammar.{applied, map, when}
+use Rattle.nesc_grammar.specs.Production.{production}
 use Rattle.nesc_tree.proofs.Fine.{Fine}
 use Rattle.nesc_tree.proofs.Moves.{Moves, strict, moves}
-use Rattle.nesc_tree.proofs.Instance.{reads_on}
+use Rattle.nesc_grammar.proofs.Instance.{reads_on}
 use Rattle.nesc_parse_types.proofs.Guards.{shut_guard}
 use Rattle.nesc_parse_types.specs.declared.stop.Stop.{Stop}
 use Rattle.nesc_parse_types.specs.declared.stop.Stop.TheVariants as rust
@@ -161,3 +162,14 @@ left_true false b h = h
 pub with_true : (b c : Bool) → b ≡ c → (b && true) ≡ c
 with_true true c h = h
 with_true false c h = h
+
+-- a turn that stands only where the token goes on
+module _ {A : Type 0} (spare : ℕ) (names : Names) (g : Form (A → A)) (b : Bool) (h : b ≡ true) where
+  pub turn_stands : (a : A) (ts : List Token) (y : Answer A) → form_in spare (applied a g) names ts ≡ y → form_in spare (applied a (when b g)) names ts ≡ y
+  turn_stands a ts y e = subst (λ (c : Bool). form_in spare (applied a (when c g)) names ts ≡ y) (sym h) e
+
+  pub turn_stops : (a : A) (ts : List Token) (r : Stop) → Fails r (form_in spare (applied a g) names ts) → Fails r (form_in spare (applied a (when b g)) names ts)
+  turn_stops a ts r e = subst (λ (c : Bool). Fails r (form_in spare (applied a (when c g)) names ts)) (sym h) e
+
+  pub turn_free : (p : Place) → ((x : Answer (A → A)) → guarded spare g p x ≡ x) → (x : Answer (A → A)) → guarded spare (when b g) p x ≡ x
+  turn_free p o x = subst (λ (c : Bool). guarded spare (when c g) p x ≡ x) (sym h) (o x)

@@ -7,7 +7,8 @@ use Rattle.nesc_tree.specs.Sorts.{Names, ahead, same_sort, sort}
 use Rattle.nesc_tree.specs.Phrase.{Phrase, begins}
 use Rattle.nesc_tree.specs.Form.{Place}
 use Rattle.nesc_tree.specs.Reading.{Fault, Syntax, Deep, Answer, read, phrase, pass, stop, short, guarded, ◌>>=◌}
-use Rattle.nesc_tree.specs.Grammar.{production, stars}
+use Rattle.nesc_grammar.specs.Grammar.{stars}
+use Rattle.nesc_grammar.specs.Production.{production}
 use Rattle.nesc_parse_types.specs.declared.stop.Stop.{Stop}
 use Rattle.nesc_parse_types.specs.declared.stop.Stop.TheVariants as rust
 use Rattle.nesc_parse_types.specs.Gives.{Fails, Found, Gives, form_in, pointers_in, place}

@@ -1,7 +1,7 @@
 //! Reading the fields of structs (C99 6.7.2.1), and declarators.
 
 ghost use Rattle.std.specs.Prelude.{◌≡◌, ◌≤◌, ◌<◌, ◌^◌, IfOk};
-ghost use Rattle.nesc_tree.specs.Grammar as grammar;
+ghost use Rattle.nesc_grammar.specs.Grammar as grammar;
 ghost use Rattle.nesc_parse_types.specs.Gives.{Gives, Nests, form_in};
 
 use crate::reader::{Reader, expect, name};

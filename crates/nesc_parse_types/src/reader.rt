@@ -2,7 +2,7 @@
 
 ghost use Rattle.std.specs.Prelude.{◌≡◌, ◌≤◌, ◌<◌, ◌^◌, ℕ, IfOk, true, false};
 ghost use Rattle.nesc_tree.specs.Reading as reading;
-ghost use Rattle.nesc_tree.specs.Grammar as grammar;
+ghost use Rattle.nesc_grammar.specs.Grammar as grammar;
 ghost use Rattle.nesc_parse_types.specs.Gives.{Gives, GivesToken, Nests, expr_in, fields_in, form_in, opened_in};
 
 use crate::stop::{Found, Stop};

@@ -1,7 +1,7 @@
 //! Types, declarators, fields and constants made of their parts.
 
 ghost use Rattle.std.specs.Prelude.{◌≡◌, ◌<◌, ◌^◌, IfOk};
-ghost use Rattle.nesc_tree.specs.Grammar as spec;
+ghost use Rattle.nesc_grammar.specs.Grammar as spec;
 
 use nesc_tree::{
     Base, CastType, Declarator, Declarators, Declared, Dims, EnumItem, FieldGroup, Fields, Grouped,
@@ -25,7 +25,7 @@ pub fn integer(is_unsigned: bool, width: Width) -> IntType
 }
 
 /// Of `signed` and `unsigned`, whether it is the second.
-#[tactic(auto, unfolding(nesc_tree::specs::Grammar::is_unsigned))]
+#[tactic(auto, unfolding(nesc_grammar::specs::Grammar::is_unsigned))]
 pub fn is_unsigned(token: &Token) -> bool
     ensures { result ≡ spec.is_unsigned token.now }
 {
@@ -33,7 +33,7 @@ pub fn is_unsigned(token: &Token) -> bool
 }
 
 /// Of `const` and `volatile`, whether it is the first.
-#[tactic(auto, unfolding(nesc_tree::specs::Grammar::is_const))]
+#[tactic(auto, unfolding(nesc_grammar::specs::Grammar::is_const))]
 pub fn is_const(token: &Token) -> bool
     ensures { result ≡ spec.is_const token.now }
 {
@@ -41,7 +41,7 @@ pub fn is_const(token: &Token) -> bool
 }
 
 /// The width that `short` or `long` tells.
-#[tactic(auto, unfolding(nesc_tree::specs::Grammar::length_of))]
+#[tactic(auto, unfolding(nesc_grammar::specs::Grammar::length_of))]
 pub fn length_of(token: &Token) -> Width
     ensures { result ≡ spec.length_of token.now }
 {

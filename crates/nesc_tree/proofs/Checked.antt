@@ -90,7 +90,7 @@ opens (Form.sub p f) = true
 opens (Form.maybe g a) = opens g
 opens (Form.many go a body) = all_of (λ x. opens (body x)) sorts
 opens (Form.loop may fits weight g body) = opens g && all_of (λ x. opens (body x)) sorts
-opens (Form.declare f g) = opens g && all_of (λ y. no (bars g y)) sorts
+opens (Form.declare f g) = opens g && (no (bars g s.Word) && no (bars g s.TypeName))
 opens (Form.scope g) = opens g && (no (bars g s.Word) && no (bars g s.TypeName))
 
 or_else : (a b : Bool) → either a b ≡ true → a ≡ false → b ≡ true
@@ -113,5 +113,5 @@ opened (Form.sub p f) h = tt
 opened (Form.maybe g a) h = opened g h
 opened (Form.many go a body) h = λ x. opened (body x) (all_at (λ x. opens (body x)) h x)
 opened (Form.loop may fits weight g body) h = (opened g (left_of _ _ h), (λ x. opened (body x) (all_at (λ x. opens (body x)) (right_of (opens g) _ h) x)))
-opened (Form.declare f g) h = (opened g (left_of _ _ h), (λ y. not_so _ (all_at (λ y. no (bars g y)) (right_of (opens g) _ h) y)))
+opened (Form.declare f g) h = let k = right_of (opens g) _ h in (opened g (left_of _ _ h), not_so _ (left_of _ _ k), not_so _ (right_of (no (bars g s.Word)) _ k))
 opened (Form.scope g) h = let k = right_of (opens g) _ h in (opened g (left_of _ _ h), not_so _ (left_of _ _ k), not_so _ (right_of (no (bars g s.Word)) _ k))

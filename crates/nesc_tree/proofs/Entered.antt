@@ -8,8 +8,7 @@ use Rattle.nesc_tree.specs.declared.sorts.Sort.TheVariants as s
 use Rattle.nesc_tree.specs.Sorts.{Names, ahead, same_sort, sorts}
 use Rattle.nesc_tree.specs.Phrase.{Phrase, Of, begins}
 use Rattle.nesc_tree.specs.Form.{Form, Place, next, nullable, starts, either, goes}
-use Rattle.nesc_tree.specs.Reading.{Fault, Syntax, ◌>>=◌, Answer, Reader, nests, pass, short, guarded, turns, read, all_of}
-use Rattle.nesc_tree.specs.Laws.{left_by}
+use Rattle.nesc_tree.specs.Reading.{Fault, Syntax, ◌>>=◌, Answer, left_by, Reader, nests, pass, short, guarded, turns, read, all_of}
 use Rattle.nesc_tree.proofs.Fine.{Fine}
 use Rattle.nesc_tree.proofs.Checked.{no, all_at}
 use Rattle.nesc_tree.proofs.Moves.{Moves, weaken, moves_then, moves, strict, turns_moves, passes, left_of, right_of, not_left, not_both, second}

@@ -12,11 +12,7 @@ pub mod Told
 pub mod Levels
 pub mod Fresh
 pub mod Checked
-pub mod Instance
-pub mod Reach
 pub mod Entered
 pub mod Grown
 pub mod Tags
 pub mod Held
-pub mod RowLemmas
-pub mod Plain

@@ -139,7 +139,7 @@ module _ (d : ℕ) (Nested : (p : Phrase) → Relation (Of p))
       record { us = n.us; spelled = (t.0, with q.names m.us, n.spelled, m.spelled); cut = joined n.cut m.cut; keeps = Keeps.same (full_keeps (nullable g) fine.1 n.keeps) }
   moved (Form.declare {A = A} f g) fine opn p r b t follow c =
       let q : Place = t.0 in
-      let m = moved g fine.0 opn.0 p q b t.1 follow (Free.free (opn.1 _)) in
+      let m = moved g fine.0 opn.0 p q b t.1 follow (elsewhere (bars g) opn.1 opn.2 q r follow (ap (λ (u : Place). u.rest) t.2) c) in
       record { us = m.us; spelled = (with q.names follow, m.spelled, ap (λ (u : Place). with u.names follow) t.2); cut = subst (λ (u : Place). Cut p.rest u.rest m.us follow) (sym t.2) m.cut; keeps = Keeps.same (full_keeps (nullable g) fine.1 m.keeps) }
   moved (Form.scope {A = A} g) fine opn p r b t follow c =
       let q : Place = t.0 in

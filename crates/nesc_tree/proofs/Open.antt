@@ -47,6 +47,20 @@ seed_of Phrase.opened = s.Word
 seed_of Phrase.fields = s.LBrace
 seed_of Phrase.pointers = s.Star
 seed_of Phrase.type = s.Void
+seed_of Phrase.braces = s.LBrace
+seed_of Phrase.local = s.Void
+seed_of (Phrase.stmt jumps) = s.LBrace
+seed_of (Phrase.label jumps) = s.Case
+seed_of (Phrase.cases jumps) = s.LBrace
+seed_of (Phrase.decl site) = s.Void
+seed_of (Phrase.decls site) = s.RBrace
+seed_of Phrase.attribute = s.At
+seed_of Phrase.generics = s.LParen
+seed_of Phrase.spec = s.Specify
+seed_of Phrase.line = s.Word
+seed_of Phrase.item = s.Item
+seed_of Phrase.interface = s.Interface
+seed_of Phrase.component = s.Generic
 
 -- how the shortest text begins, with phrases in it or without
 abbrev pub seed : Bool → {A : Type 0} → Form A → Seed
@@ -78,5 +92,5 @@ Open (Form.sub p f) = Unit {0}
 Open (Form.maybe g a) = Open g
 Open (Form.many go a body) = (x : Sort) → Open (body x)
 Open (Form.loop may fits weight g body) = Open g × ((x : Sort) → Open (body x))
-Open (Form.declare f g) = Open g × ((x : Sort) → bars g x ≡ false)
+Open (Form.declare f g) = Open g × (bars g s.Word ≡ false) × (bars g s.TypeName ≡ false)
 Open (Form.scope g) = Open g × (bars g s.Word ≡ false) × (bars g s.TypeName ≡ false)

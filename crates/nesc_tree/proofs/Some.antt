@@ -181,7 +181,7 @@ module _ (d : ℕ) (Nested : (p : Phrase) → Relation (Of p)) (r : Bool)
       (record { us = t.0.us; value = t.0.value; names = t.0.names; spelled = (t.0.value, with t.0.names (follow t.0.value t.0.names), t.0.spelled, Chain.done (rw z refl)) }, t.1)
   some (Form.declare {A = A} f g) fine opn ns follow c l =
       let fg : Follow A = λ a ms. follow a (f a ms) in
-      let t : (t : Text (Spells d Nested g) ns fg) × Opens (seed r g) ns t.us t.names (fg t.value t.names) = some g fine.0 opn.0 ns fg (λ a ms. opn.1 _) l in
+      let t : (t : Text (Spells d Nested g) ns fg) × Opens (seed r g) ns t.us t.names (fg t.value t.names) = some g fine.0 opn.0 ns fg (λ a ms. across (bars g) opn.1 opn.2 (f a ms) ms (follow a (f a ms)) (c a (f a ms))) l in
       let by : Opens (seed r g) ns t.0.us t.0.names (fg t.0.value t.0.names) → Opens (seed r g) ns t.0.us (f t.0.value t.0.names) (fg t.0.value t.0.names) = elim [
         | Opens.quiet q e w ↦ let z = quiet_nullable r g fine.0 q in let y = fine.1 in absurd cc
         | Opens.at x q e ↦ Opens.at x q e

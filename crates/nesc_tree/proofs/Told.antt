@@ -328,7 +328,7 @@ module _ (d : ℕ) (nested : (p : Phrase) → Reader (Of p)) (Nested : (p : Phra
   told (Form.declare {A = A} f g) fine opn p c =
       told_map (Spells d Nested g) (Spells d Nested (Form.declare f g)) (bars g) (bars g) p (read d nested g p) (λ x. Ok (x.0, record { names = f x.0 x.1.names; rest = x.1.rest })) (λ y. tt)
       (λ ts begins follow z. (
-      let P = begins (λ a ms. follow a (f a ms)) (λ a ms. opn.1 _) in
+      let P = begins (λ a ms. follow a (f a ms)) (λ a ms. across (bars g) opn.1 opn.2 (f a ms) ms (follow a (f a ms)) (z a (f a ms))) in
       record { us = P.us; tail = P.tail; value = P.value; names = f P.value P.names; cut = P.cut; spelled = (with P.names (follow P.value (f P.value P.names)), P.spelled, refl); same = P.same })) (told g fine.0 opn.0 p c)
   told (Form.scope {A = A} g) fine opn p c =
       told_map (Spells d Nested g) (Spells d Nested (Form.scope g)) (bars g) (bars g) p (read d nested g p) (λ x. Ok (x.0, record { names = p.names; rest = x.1.rest })) (λ y. tt)

@@ -3,9 +3,8 @@ use Rattle.std.specs.Prelude.{ℕ, Bool, true, false, ◌&&◌, nat_le, List, []
 use Rattle.nesc_tree.specs.declared.sorts.Sort.{Sort}
 use Rattle.nesc_tree.specs.declared.sorts.Sort.TheVariants as s
 use Rattle.nesc_tree.specs.Sorts.{sorts}
-use Rattle.nesc_tree.specs.Phrase.{Phrase, begins}
+use Rattle.nesc_tree.specs.Phrase.{Phrase, begins, is_operator}
 use Rattle.nesc_tree.specs.Form.{Form, nullable, starts, either}
-use Rattle.nesc_tree.specs.Grammar.{is_operator}
 
 abbrev pub any_of : (Sort → Bool) → List Sort → Bool
 any_of f [] = false
@@ -23,6 +22,11 @@ stay_type s.Int = true
 stay_type s.LBrace = true
 stay_type _ = false
 
+-- behind a statement
+abbrev pub is_else : Sort → Bool
+is_else s.Else = true
+is_else _ = false
+
 -- tokens that a text of the phrase would go on with
 abbrev pub stay : Phrase → Sort → Bool
 stay (Phrase.expr least) x = stay_expr least x
@@ -30,6 +34,10 @@ stay Phrase.opened x = stay_expr 1 x
 stay Phrase.fields x = false
 stay Phrase.pointers x = begins Phrase.pointers x
 stay Phrase.type x = stay_type x
+stay (Phrase.stmt jumps) x = is_else x
+stay (Phrase.label jumps) x = is_else x
+stay (Phrase.decl site) x = is_else x
+stay _ x = false
 
 -- tokens that a text of the form would go on with
 abbrev pub bars : {A : Type 0} → Form A → Sort → Bool

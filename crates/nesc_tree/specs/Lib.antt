@@ -1,13 +1,9 @@
 pub mod Bindings
 pub mod Choices
 pub mod Form
-pub mod Grammar
-pub mod Laws
 pub mod Level
 pub mod Phrase
 pub mod Plain
-pub mod Reach
 pub mod Reading
-pub mod Rows
 pub mod Sorts
 pub mod View

@@ -1,5 +1,6 @@
 //! Expressions, arguments and types that were read, with what reading goes on by.
 
+use crate::declarations::Init;
 use crate::tree::{Declarator, EnumItem, Expr, FieldGroup, TypeSpec};
 use nm_base::{List, Pos};
 
@@ -81,6 +82,13 @@ pub struct Item {
 pub struct Items {
     pub items: List<EnumItem>,
     pub height: usize,
+    pub ended: bool,
+}
+
+/// Initialisers with commas between them, and whether a comma is behind the last one.
+#[derive(Drop)]
+pub struct Inits {
+    pub list: List<Init>,
     pub ended: bool,
 }
 

@@ -1,6 +1,6 @@
 //! Names that are declared, hidden and looked up.
 
-use crate::{Sort, TypeNames, ahead, one_tree, same_sort, sort_of, worked_rows};
+use crate::{Sort, TypeNames, ahead, same_sort, sort_of};
 use nm_base::{Kind, Name, NoMemory, Pos, Token};
 use std::alloc::Global;
 use std::test::Fail;
@@ -52,7 +52,5 @@ fn sorts_of_tokens(rt: HostRuntime) -> Result<(), Fail> {
         assert!(rt; same_sort(found, want));
     }
     assert_eq!(rt; ahead(&names, &[]), Sort::End);
-    worked_rows();
-    one_tree();
     Ok(())
 }

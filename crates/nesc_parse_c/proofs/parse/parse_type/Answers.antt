@@ -1,5 +1,5 @@
 use Rattle.std.proofs.Common.{◌≡◌, Ok, drop, sym, subst, ◌∙◌}
-use Rattle.nesc_tree.specs.Grammar as grammar
+use Rattle.nesc_grammar.specs.Grammar as grammar
 use Rattle.nesc_parse_types.specs.Gives.{Fails, form_in, place}
 use Rattle.nesc_parse_c.specs.declared.probes.Wanted.TheVariants as wanted
 use Rattle.nesc_parse_c.proofs.FromPlace.{parses}

@@ -1,5 +1,5 @@
 use Rattle.std.proofs.Common.{◌≡◌, drop, None, Some, sym, subst}
-use Rattle.nesc_tree.specs.Reach.{BeginsIn}
+use Rattle.nesc_grammar.specs.Reach.{BeginsIn}
 use Rattle.nesc_parse_c.specs.Parsed.{most}
 use Rattle.nesc_parse_c.specs.Probes.{phrase_of, TellsForm}
 use Rattle.nesc_parse_c.proofs.Refusals.{rest_fits, starts_before, begins, first_of, at_end, plain, left_out}

@@ -2,7 +2,7 @@ use Rattle.std.proofs.Common.{◌≡◌, ℕ, suc, ◌-◌, ◌+◌, true, false
 use Rattle.nesc_tree.specs.declared.sorts.Sort.TheVariants as s
 use Rattle.nesc_tree.specs.Sorts.{ahead, same_sort}
 use Rattle.nesc_tree.specs.Reading.{Answer}
-use Rattle.nesc_tree.specs.Grammar as grammar
+use Rattle.nesc_grammar.specs.Grammar as grammar
 use Rattle.nesc_parse_types.specs.Gives.{Fails, form_in, place}
 use Rattle.nesc_parse_types.proofs.Many.{tested, through}
 use Rattle.nesc_parse_types.proofs.Stars.{no_stars, too_many, more_stars, fails_behind}

@@ -1,7 +1,7 @@
 use Rattle.std.proofs.Common.{◌≡◌, suc, length, true, false, refl}
 use Rattle.nesc_tree.specs.Sorts.{ahead}
 use Rattle.nesc_tree.specs.Form.{goes}
-use Rattle.nesc_tree.specs.Grammar.{may, fits}
+use Rattle.nesc_grammar.specs.Grammar.{may, fits}
 use Rattle.nesc_parse_types.proofs.Many.{tested, through}
 use Rattle.nesc_parse_exprs.specs.Turns.{climb_in}
 use Rattle.nesc_parse_exprs.proofs.Climb.{begins, ends, goes_on, shorter, fails}

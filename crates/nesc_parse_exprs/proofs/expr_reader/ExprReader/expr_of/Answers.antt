@@ -1,6 +1,6 @@
 use Rattle.std.proofs.Common.{◌≡◌, sym, subst}
 use Rattle.nesc_tree.specs.Phrase.{Phrase}
-use Rattle.nesc_tree.specs.Grammar.{production}
+use Rattle.nesc_grammar.specs.Production.{production}
 use Rattle.nesc_parse_types.specs.Gives.{Gives, form_in}
 use Rattle.nesc_parse_types.proofs.Many.{through}
 use Rattle.nesc_parse_exprs.proofs.BehindParen.{climbs, climb_fails}

@@ -2,7 +2,7 @@ use Rattle.std.proofs.Common.{◌≡◌, true, false, refl, sym, subst}
 use Rattle.nesc_tree.specs.Sorts.{ahead}
 use Rattle.nesc_tree.specs.Form.{goes}
 use Rattle.nesc_tree.specs.Level as level
-use Rattle.nesc_tree.specs.Grammar as grammar
+use Rattle.nesc_grammar.specs.Grammar as grammar
 use Rattle.nesc_tree.proofs.Checked.{checked}
 use Rattle.nesc_parse_types.specs.Gives.{form_in, place}
 use Rattle.nesc_parse_exprs.specs.Parts as parts

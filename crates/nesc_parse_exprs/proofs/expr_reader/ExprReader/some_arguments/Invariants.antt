@@ -1,7 +1,7 @@
 -- What is read so far, and the turns that are left.
 use Rattle.std.proofs.Common.{ℕ, true, length}
 use Rattle.nesc_tree.specs.Form.{goes}
-use Rattle.nesc_tree.specs.Grammar as grammar
+use Rattle.nesc_grammar.specs.Grammar as grammar
 use Rattle.nesc_parse_types.specs.Gives.{form_in}
 use Rattle.nesc_parse_exprs.specs.Parts as parts
 use Rattle.nesc_parse_types.proofs.Many.{IsAt}

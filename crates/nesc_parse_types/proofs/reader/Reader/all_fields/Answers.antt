@@ -1,7 +1,7 @@
 use Rattle.std.proofs.Common.{◌≡◌, Ok, true, false, refl, sym, subst}
 use Rattle.nesc_tree.specs.Sorts.{ahead}
 use Rattle.nesc_tree.specs.Phrase.{begins_type}
-use Rattle.nesc_tree.specs.Grammar as grammar
+use Rattle.nesc_grammar.specs.Grammar as grammar
 use Rattle.nesc_tree.proofs.Checked.{checked}
 use Rattle.nesc_parse_types.specs.Gives.{form_in}
 use Rattle.nesc_parse_types.proofs.Heights.{all_fields_fit}

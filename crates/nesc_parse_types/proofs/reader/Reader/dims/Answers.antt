@@ -1,6 +1,6 @@
 use Rattle.std.proofs.Common.{◌≡◌, ◌<◌, true, false, refl, sym, subst, arith}
 use Rattle.nesc_tree.specs.Sorts.{ahead}
-use Rattle.nesc_tree.specs.Grammar as grammar
+use Rattle.nesc_grammar.specs.Grammar as grammar
 use Rattle.nesc_tree.proofs.Checked.{checked}
 use Rattle.nesc_parse_types.specs.Gives.{form_in, place}
 use Rattle.nesc_parse_types.proofs.Guards.{open_guard}

@@ -1,7 +1,7 @@
 use Rattle.std.proofs.Common.{◌≤◌}
 use Rattle.nesc_tree.specs.Phrase.{Phrase}
 use Rattle.nesc_tree.specs.Reading.{phrase}
-use Rattle.nesc_tree.specs.Grammar.{production}
+use Rattle.nesc_grammar.specs.Production.{production}
 use Rattle.nesc_parse_types.specs.Gives.{place}
 use Rattle.nesc_parse_types.proofs.Heights.{found, opened_fits, phrase_fits}
 use Rattle.nesc_parse_types.proofs.reader.Reader.nested_opened.Goals as goal

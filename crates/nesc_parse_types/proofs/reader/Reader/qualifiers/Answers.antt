@@ -1,6 +1,6 @@
 use Rattle.std.proofs.Common.{◌≡◌, true, false, refl, sym, subst}
 use Rattle.nesc_tree.specs.Sorts.{ahead}
-use Rattle.nesc_tree.specs.Grammar as grammar
+use Rattle.nesc_grammar.specs.Grammar as grammar
 use Rattle.nesc_tree.proofs.Checked.{checked}
 use Rattle.nesc_parse_types.specs.Gives.{form_in}
 use Rattle.nesc_parse_types.proofs.Many.{IsAt, begins_many, ends, next_turn, falls, fails, through, tested}

@@ -2,7 +2,7 @@
 use Rattle.std.proofs.Common.{ℕ, true, length}
 use Rattle.nesc_tree.specs.Form.{goes}
 use Rattle.nesc_tree.specs.Phrase.{begins_type}
-use Rattle.nesc_tree.specs.Grammar as grammar
+use Rattle.nesc_grammar.specs.Grammar as grammar
 use Rattle.nesc_parse_types.specs.Gives.{form_in}
 use Rattle.nesc_parse_types.proofs.Many.{IsAt}
 use Rattle.nesc_parse_types.proofs.reader.Reader.qualifiers.Given as goal

@@ -1,7 +1,7 @@
 use Rattle.std.proofs.Common.{◌≡◌, true}
 use Rattle.nesc_tree.specs.declared.sorts.Sort.TheVariants as s
 use Rattle.nesc_tree.specs.Sorts.{ahead, same_sort}
-use Rattle.nesc_tree.specs.Grammar as grammar
+use Rattle.nesc_grammar.specs.Grammar as grammar
 use Rattle.nesc_parse_types.specs.Gives.{form_in}
 use Rattle.nesc_parse_types.proofs.Many.{tested, through}
 use Rattle.nesc_parse_types.proofs.Bases.{some_read, some_fail}

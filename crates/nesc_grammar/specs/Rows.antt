@@ -19,7 +19,7 @@ use Rattle.nesc_tree.specs.declared.operand.Operand.{Operand}
 use Rattle.nesc_tree.specs.Sorts.{Names}
 use Rattle.nesc_tree.specs.Phrase.{Phrase}
 use Rattle.nesc_tree.specs.Reading.{Syntax, Deep, Answer}
-use Rattle.nesc_tree.specs.Laws.{answer}
+use Rattle.nesc_grammar.specs.Laws.{answer}
 
 abbrev pub start : Pos
 start = record { file = 0; line = 1; col = 1 }

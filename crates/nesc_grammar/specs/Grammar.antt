@@ -32,8 +32,8 @@ use Rattle.nesc_tree.specs.declared.operand.Declarators.{Declarators}
 use Rattle.nesc_tree.specs.declared.operand.Width.{Width}
 use Rattle.nesc_tree.specs.declared.operand.Width.TheVariants as w
 use Rattle.nesc_tree.specs.Level as level
-pub use Rattle.nesc_tree.specs.Phrase.{begins_type}
-use Rattle.nesc_tree.specs.Phrase.{Phrase, Of}
+pub use Rattle.nesc_tree.specs.Phrase.{begins_type, is_operator}
+use Rattle.nesc_tree.specs.Phrase.{Phrase}
 use Rattle.nesc_tree.specs.Form.{Form}
 
 abbrev pub one : Sort → Form Token
@@ -59,6 +59,13 @@ before g h = Form.seq (λ a _. a) g h
 -- the value of the second is made with that of the first
 abbrev pub with : {A B : Type 0} → Form A → Form (A → B) → Form B
 with g h = Form.seq (λ a f. f a) g h
+
+abbrev pub if_type : {A : Type 0} → Bool → Form A → Form A → Form A
+if_type true g h = g
+if_type false g h = h
+
+abbrev pub when : {A : Type 0} → Bool → Form A → Form A
+when c g = if_type c g Form.none
 
 -- a name, also where it is a type name
 abbrev pub name_of : Sort → Form Token
@@ -228,7 +235,7 @@ abbrev pub another_item : Form (Items → Items)
 another_item = map more_items (behind (one s.Comma) some_item)
 
 abbrev pub items : Form Items
-items = Form.loop is_comma not_ended (λ _. 0) (map first_item item) (λ _. another_item)
+items = Form.loop is_comma not_ended (λ _. 0) (map first_item item) (λ x. when (is_comma x) another_item)
 
 abbrev pub braced_items : Form Items
 braced_items = behind (one s.LBrace) (before items (one s.RBrace))
@@ -504,10 +511,6 @@ cast = Form.seq cast_operand cast_type (behind (one s.RParen) (expr level.cast))
 abbrev pub parens : Form (Token → Operand)
 parens = Form.seq (λ a _. paren_operand a) (expr level.comma) (one s.RParen)
 
-abbrev pub if_type : {A : Type 0} → Bool → Form A → Form A → Form A
-if_type true g h = g
-if_type false g h = h
-
 -- where no cast may stand, no type is behind `(`
 abbrev pub bracketed : Bool → Sort → Form (Token → Operand)
 bracketed may_cast x = if_type (begins_type x && may_cast) cast parens
@@ -639,33 +642,6 @@ operation s.Arrow = arrow
 operation s.Step = step
 operation _ = Form.none
 
--- operators and postfixes; a comma only in an expression of the lowest level
-abbrev pub is_operator : Sort → Bool
-is_operator s.Assign = true
-is_operator s.OpAssign = true
-is_operator s.Question = true
-is_operator s.OrOr = true
-is_operator s.AndAnd = true
-is_operator s.Bar = true
-is_operator s.Caret = true
-is_operator s.Amp = true
-is_operator s.Equality = true
-is_operator s.Less = true
-is_operator s.Greater = true
-is_operator s.OrEqual = true
-is_operator s.Shift = true
-is_operator s.Plus = true
-is_operator s.Minus = true
-is_operator s.Star = true
-is_operator s.Divide = true
-is_operator s.LBracket = true
-is_operator s.LParen = true
-is_operator s.Dot = true
-is_operator s.Arrow = true
-is_operator s.Step = true
-is_operator s.Comma = true
-is_operator _ = false
-
 abbrev pub may : ℕ → Sort → Bool
 may least o = is_operator o && nat_le least (binds o)
 
@@ -682,10 +658,3 @@ expression may_cast least = Form.loop (may least) fits (λ a. a.height) (Form.by
 -- a unary expression, as the operand of `++`, begins with no cast (C99 6.5.3)
 abbrev pub admits_cast : ℕ → Bool
 admits_cast least = nat_le least level.cast
-
-abbrev pub production : (p : Phrase) → Form (Of p)
-production (Phrase.expr least) = expression (admits_cast least) least
-production Phrase.type = type_form
-production Phrase.pointers = Form.seq (λ _ n. suc n) (one s.Star) stars
-production Phrase.fields = struct_fields
-production Phrase.opened = Form.loop (may level.postfix) (λ f. fits (f somewhere)) (λ f. (f somewhere).height) parens (λ x. map (λ g f o. grown g (f o)) (operation x))

@@ -2,8 +2,8 @@
 use Rattle.std.proofs.Common.{refl}
 use Rattle.nesc_tree.specs.Sorts.{sort, sign, keyword}
 use Rattle.nesc_tree.specs.Reading.{phrase, read}
-use Rattle.nesc_tree.specs.Grammar.{infix_of, prefix_of, suffix_of, assignment_of, is_unsigned, is_const, length_of, is_signal, unique_expr}
-use Rattle.nesc_tree.specs.Rows.{WorkedRows}
+use Rattle.nesc_grammar.specs.Grammar.{infix_of, prefix_of, suffix_of, assignment_of, is_unsigned, is_const, length_of, is_signal, unique_expr}
+use Rattle.nesc_grammar.specs.Rows.{WorkedRows}
 
 pub rows : WorkedRows
 unfolding phrase read sort sign keyword infix_of prefix_of suffix_of assignment_of is_unsigned is_const length_of is_signal unique_expr

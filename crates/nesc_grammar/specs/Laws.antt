@@ -1,21 +1,18 @@
 -- What is proved of the grammar and of reading by it.
-use Rattle.std.specs.Prelude.{◌≡◌, ℕ, suc, List, [], ◌∷◌, ◌++◌, Ok, Err, true, false}
+use Rattle.std.specs.Prelude.{◌≡◌, ℕ, suc, Bool, List, [], ◌∷◌, ◌++◌, Ok, Err, true, false}
 use Rattle.nm_base.specs.declared.token.Token.{Token}
 use Rattle.nesc_tree.specs.declared.sorts.Sort.{Sort}
-use Rattle.nesc_tree.specs.Sorts.{Names}
+use Rattle.nesc_tree.specs.declared.sorts.Sort.TheVariants as s
+use Rattle.nesc_tree.specs.Sorts.{Names, same_sort}
 use Rattle.nesc_tree.specs.Choices.{decides}
 use Rattle.nesc_tree.specs.Phrase.{Phrase, Of, fits_one_level}
-use Rattle.nesc_tree.specs.Reading.{Syntax, Deep, Answer, phrase, rest_of}
-use Rattle.nesc_tree.specs.Grammar.{production}
-use Rattle.nesc_tree.specs.Reach.{SpelledIn, Spelled, BeginsIn, Begins, IsReach, IsTooDeep}
+pub use Rattle.nesc_tree.specs.Reading.{left_by}
+use Rattle.nesc_tree.specs.Reading.{Syntax, Deep, Answer, phrase}
+use Rattle.nesc_grammar.specs.Production.{production}
+use Rattle.nesc_grammar.specs.Reach.{SpelledIn, Spelled, BeginsIn, Begins, IsReach, IsTooDeep}
 
 abbrev pub answer : ℕ → (k : Phrase) → Names → List Token → Answer (Of k)
 answer levels k names ts = phrase production levels k (record { names = names; rest = ts })
-
--- where reading stops
-abbrev pub left_by : {A : Type 0} → Answer A → List Token
-left_by (Ok x) = x.1.rest
-left_by (Err e) = rest_of e
 
 -- what an answer says of the tokens before the place where reading stops
 abbrev pub Reached : ℕ → (k : Phrase) → Names → List Token → Answer (Of k) → Type 0
@@ -36,6 +33,19 @@ ProbeTells = (probe : Token) (d : ℕ) (k : Phrase) → fits_one_level k ≡ tru
     × (answer (suc d) k names (before ++ (probe ∷ [])) ≡ Err (Deep (probe ∷ [])) → Begins k names (before ++ (probe ∷ [])))
     × ((t : Token) (ts : List Token) → left_by (answer (suc d) k names (before ++ (probe ∷ []))) ≡ t ∷ ts → ((us : List Token) → answer (suc d) k names (before ++ (probe ∷ [])) ≡ Err (Deep us) → ⊥) → Begins k names (before ++ (probe ∷ [])) → ⊥)
 
--- in no expression does the longest reading choose between two texts
-abbrev pub LongestChoosesNothing : Type 0
-LongestChoosesNothing = (k : Phrase) (y : Sort) → decides (production k) y ≡ false
+-- expressions, types, initialisers, statements and declarations in blocks
+abbrev pub stands_in_body : Phrase → Bool
+stands_in_body (Phrase.decl site) = false
+stands_in_body (Phrase.decls site) = false
+stands_in_body Phrase.attribute = false
+stands_in_body Phrase.generics = false
+stands_in_body Phrase.spec = false
+stands_in_body Phrase.line = false
+stands_in_body Phrase.item = false
+stands_in_body Phrase.interface = false
+stands_in_body Phrase.component = false
+stands_in_body _ = true
+
+-- in them the longest reading chooses between two texts at an `else` alone
+abbrev pub LongestChoosesElse : Type 0
+LongestChoosesElse = (k : Phrase) → stands_in_body k ≡ true → (y : Sort) → same_sort y s.Else ≡ false → decides (production k) y ≡ false

@@ -7,9 +7,9 @@ use Rattle.nesc_tree.specs.Sorts.{Names}
 use Rattle.nesc_tree.specs.Phrase.{Phrase, Of, fits_one_level}
 use Rattle.nesc_tree.specs.Form.{Place, SpellsIn}
 use Rattle.nesc_tree.specs.Reading.{Fault, Syntax, Deep, Answer, phrase, rest_of}
-use Rattle.nesc_tree.specs.Grammar.{production}
-use Rattle.nesc_tree.specs.Reach.{SpelledIn, Spelled, BeginsIn, Begins, IsReach}
-use Rattle.nesc_tree.specs.Laws.{left_by, Reached, ReadsTheReach, OneTree, ProbeTells}
+use Rattle.nesc_grammar.specs.Production.{production}
+use Rattle.nesc_grammar.specs.Reach.{SpelledIn, Spelled, BeginsIn, Begins, IsReach}
+use Rattle.nesc_grammar.specs.Laws.{left_by, Reached, ReadsTheReach, OneTree, ProbeTells}
 use Rattle.nesc_tree.proofs.Open.{stay}
 use Rattle.nesc_tree.proofs.Some.{with}
 use Rattle.nesc_tree.proofs.Moved.{Cut, Free}
@@ -17,7 +17,7 @@ use Rattle.nesc_tree.proofs.Told.{Told}
 use Rattle.nesc_tree.proofs.Sound.{Sound}
 use Rattle.nesc_tree.proofs.Meets.{Same, Meets}
 use Rattle.nesc_tree.proofs.Grown.{Grown}
-use Rattle.nesc_tree.proofs.Instance.{reads_spelled, reads_beside, stops_told, may_stand, has_text, grows}
+use Rattle.nesc_grammar.proofs.Instance.{reads_spelled, reads_beside, stops_told, may_stand, has_text, grows}
 
 parts : {ts rest us tail : List Token} → Cut ts rest us tail → (before : List Token) × (ts ≡ before ++ rest) × (us ≡ before ++ tail)
 parts Cut.here = ([], refl, refl)
@@ -72,6 +72,7 @@ nothing Phrase.opened = refl
 nothing Phrase.fields = refl
 nothing Phrase.pointers = refl
 nothing Phrase.type = refl
+nothing _ = refl
 
 module _ (d : ℕ) (k : Phrase) (one : fits_one_level k ≡ true) (names : Names) (ts : List Token) where
   abbrev answer : Answer (Of k)

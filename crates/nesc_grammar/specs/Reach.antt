@@ -4,7 +4,7 @@ use Rattle.nm_base.specs.declared.token.Token.{Token}
 use Rattle.nesc_tree.specs.Sorts.{Names}
 use Rattle.nesc_tree.specs.Phrase.{Phrase, Of}
 use Rattle.nesc_tree.specs.Form.{SpellsIn}
-use Rattle.nesc_tree.specs.Grammar.{production}
+use Rattle.nesc_grammar.specs.Production.{production}
 
 -- the tokens spell the tree, with at most so many levels
 pub record SpelledIn (levels : ℕ) (k : Phrase) (names : Names) (tree : Of k) (ts : List Token) : Type 0 where

@@ -1,0 +1,5 @@
+pub mod Instance
+pub mod Reach
+pub mod RowLemmas
+pub mod Plain
+pub mod DeclarationRowLemmas

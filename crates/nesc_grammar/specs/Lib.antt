@@ -1,0 +1,9 @@
+pub mod Components
+pub mod DeclarationRows
+pub mod Declarations
+pub mod Grammar
+pub mod Laws
+pub mod Production
+pub mod Reach
+pub mod Rows
+pub mod Statements

@@ -1,5 +1,0 @@
-use Rattle.nesc_tree.proofs.Reach as law
-use Rattle.nesc_tree.proofs.laws.probe_tells.Goals as goal
-
-pub returns : goal.returns
-returns c = law.probe_tells
