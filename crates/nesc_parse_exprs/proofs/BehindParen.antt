@@ -110,18 +110,21 @@ module _ (d : ℕ) (o : Token) where
 -- ---- an expression of at least a level
 
 module _ (d least : ℕ) (names : Names) (ts : List Token) where
-  pub climbs : (a : Operand) (rest : List Token) → form_in d parts.primary names ts ≡ Ok (a, place names rest) → form_in d (production (Phrase.expr least)) names ts ≡ climb_in d least (suc (length rest)) names a rest
-  unfolding read
-  climbs a rest h = ap (λ (x : Answer Operand). x >>= λ y. climb_in d least (suc (length y.1.rest)) y.1.names y.0 y.1.rest) h
+  module _ (m : Bool) (is : m ≡ grammar.admits_cast least) where
+    whole_is : form_in d (production (Phrase.expr least)) names ts ≡ (form_in d (parts.primary m) names ts >>= λ y. climb_in d least (suc (length y.1.rest)) y.1.names y.0 y.1.rest)
+    unfolding read
+    whole_is = ap (λ (b : Bool). form_in d (parts.primary b) names ts >>= λ y. climb_in d least (suc (length y.1.rest)) y.1.names y.0 y.1.rest) (sym is)
 
-  stopped : (f : Fault) → form_in d parts.primary names ts ≡ Err f → form_in d (production (Phrase.expr least)) names ts ≡ Err f
-  unfolding read
-  stopped f h = ap (λ (x : Answer Operand). x >>= λ y. climb_in d least (suc (length y.1.rest)) y.1.names y.0 y.1.rest) h
+    pub climbs : (a : Operand) (rest : List Token) → form_in d (parts.primary m) names ts ≡ Ok (a, place names rest) → form_in d (production (Phrase.expr least)) names ts ≡ climb_in d least (suc (length rest)) names a rest
+    climbs a rest h = whole_is ∙ ap (λ (x : Answer Operand). x >>= λ y. climb_in d least (suc (length y.1.rest)) y.1.names y.0 y.1.rest) h
 
-  pub climb_fails : (r : Stop) → Fails r (form_in d parts.primary names ts) → Fails r (form_in d (production (Phrase.expr least)) names ts)
-  climb_fails rust.Memory h = tt
-  climb_fails (rust.Syntax us) h = stopped (Syntax us.now) h
-  climb_fails (rust.Deep us) h = stopped (Deep us.now) h
+    stopped : (f : Fault) → form_in d (parts.primary m) names ts ≡ Err f → form_in d (production (Phrase.expr least)) names ts ≡ Err f
+    stopped f h = whole_is ∙ ap (λ (x : Answer Operand). x >>= λ y. climb_in d least (suc (length y.1.rest)) y.1.names y.0 y.1.rest) h
+
+    pub climb_fails : (r : Stop) → Fails r (form_in d (parts.primary m) names ts) → Fails r (form_in d (production (Phrase.expr least)) names ts)
+    climb_fails rust.Memory h = tt
+    climb_fails (rust.Syntax us) h = stopped (Syntax us.now) h
+    climb_fails (rust.Deep us) h = stopped (Deep us.now) h
 
 -- ---- with no level, and with one more than what nests
 

@@ -1,5 +1,5 @@
 -- Which form the next token begins, and what it needs room for.
-use Rattle.std.proofs.Common.{◌≡◌, ◌<◌, ◌≤◌, ℕ, zero, suc, Bool, true, false, cond, List, Ok, Err, refl, sym, ap, subst, ◌∙◌, arith}
+use Rattle.std.proofs.Common.{◌≡◌, ◌<◌, ◌≤◌, ℕ, zero, suc, Bool, true, false, ◌&&◌, cond, List, Ok, Err, refl, sym, ap, subst, ◌∙◌, arith}
 use Rattle.std.proofs.lemmas.Bool.{le-leb, lt-leb}
 use Rattle.std.specs.Prelude.{nat_le}
 use Rattle.nm_base.specs.declared.token.Token.{Token}
@@ -41,17 +41,18 @@ or_none false = refl
 
 -- ---- the operand that an expression begins with
 
-primary_table : (x : Sort) → nests_first x ≡ true → (nests (grammar.primary x) ≡ true) × (starts (grammar.primary x) x ≡ true)
-primary_table s.LParen h = (refl, refl)
-primary_table s.Plus h = (refl, refl)
-primary_table s.Minus h = (refl, refl)
-primary_table s.Star h = (refl, refl)
-primary_table s.Amp h = (refl, refl)
-primary_table s.Complement h = (refl, refl)
-primary_table s.Step h = (refl, refl)
-primary_table s.PortRead h = (refl, refl)
-primary_table s.PortWrite h = (refl, refl)
-primary_table _ h = absurd cc
+primary_table : (m : Bool) (x : Sort) → nests_first x ≡ true → (nests (grammar.primary m x) ≡ true) × (starts (grammar.primary m x) x ≡ true)
+primary_table true s.LParen h = (refl, refl)
+primary_table false s.LParen h = (refl, refl)
+primary_table m s.Plus h = (refl, refl)
+primary_table m s.Minus h = (refl, refl)
+primary_table m s.Star h = (refl, refl)
+primary_table m s.Amp h = (refl, refl)
+primary_table m s.Complement h = (refl, refl)
+primary_table m s.Step h = (refl, refl)
+primary_table m s.PortRead h = (refl, refl)
+primary_table m s.PortWrite h = (refl, refl)
+primary_table m _ h = absurd cc
 
 operation_table : (x : Sort) → nests_behind x ≡ true → (nests (map grown (operation x)) ≡ true) × (starts (map grown (operation x)) x ≡ true)
 operation_table s.Comma h = (refl, refl)
@@ -101,14 +102,14 @@ shut_free s.Divide h k = absurd cc
 shut_free s.LBracket h k = absurd cc
 shut_free _ h k = absurd cc
 
-module _ (d : ℕ) (names : Names) (ts : List Token) where
-  pub primary_full : (x : Sort) → x ≡ ahead names ts → d ≡ 0 → nests_first x ≡ true → form_in d parts.primary names ts ≡ Err (Deep ts)
+module _ (d : ℕ) (m : Bool) (names : Names) (ts : List Token) where
+  pub primary_full : (x : Sort) → x ≡ ahead names ts → d ≡ 0 → nests_first x ≡ true → form_in d (parts.primary m) names ts ≡ Err (Deep ts)
   unfolding read
   primary_full x e z h =
-      let t = primary_table (ahead names ts) (rw e at h) in
-      shut_guard d (grammar.primary (ahead names ts)) (place names ts) (form_in d (grammar.primary (ahead names ts)) names ts) z t.0 ∙ ap (λ (b : Bool). Err (stop b ts)) t.1
+      let t = primary_table m (ahead names ts) (rw e at h) in
+      shut_guard d (grammar.primary m (ahead names ts)) (place names ts) (form_in d (grammar.primary m (ahead names ts)) names ts) z t.0 ∙ ap (λ (b : Bool). Err (stop b ts)) t.1
 
-  primary_shut : (x : Sort) → (nests_first x ≡ true → ⊥) → guarded 0 (grammar.primary x) (place names ts) (form_in 0 (grammar.primary x) names ts) ≡ form_in 0 (grammar.primary x) names ts
+  primary_shut : (x : Sort) → (nests_first x ≡ true → ⊥) → guarded 0 (grammar.primary m x) (place names ts) (form_in 0 (grammar.primary m x) names ts) ≡ form_in 0 (grammar.primary m x) names ts
   unfolding read
   primary_shut s.LParen h = absurd (h refl)
   primary_shut s.Plus h = absurd (h refl)
@@ -121,14 +122,15 @@ module _ (d : ℕ) (names : Names) (ts : List Token) where
   primary_shut s.PortWrite h = absurd (h refl)
   primary_shut _ h = refl
 
-  primary_room : (k : ℕ) (x : Sort) → (nests_first x ≡ true → 0 < k) → guarded k (grammar.primary x) (place names ts) (form_in k (grammar.primary x) names ts) ≡ form_in k (grammar.primary x) names ts
+  primary_room : (k : ℕ) (x : Sort) → (nests_first x ≡ true → 0 < k) → guarded k (grammar.primary m x) (place names ts) (form_in k (grammar.primary m x) names ts) ≡ form_in k (grammar.primary m x) names ts
   primary_room zero x h = primary_shut x (λ e. let l = h e in omega arith)
-  primary_room (suc k) x h = open_guard (suc k) (grammar.primary x) (place names ts) (form_in (suc k) (grammar.primary x) names ts) (omega arith)
+  primary_room (suc k) x h = open_guard (suc k) (grammar.primary m x) (place names ts) (form_in (suc k) (grammar.primary m x) names ts) (omega arith)
 
-  pub primary_open : (x : Sort) → x ≡ ahead names ts → (nests_first x ≡ true → 0 < d) → form_in d parts.primary names ts ≡ form_in d (grammar.primary x) names ts
+  pub primary_open : (x : Sort) → x ≡ ahead names ts → (nests_first x ≡ true → 0 < d) → form_in d (parts.primary m) names ts ≡ form_in d (grammar.primary m x) names ts
   unfolding read
-  primary_open x e h = primary_room d (ahead names ts) (λ k. h (subst (λ (z : Sort). nests_first z ≡ true) (sym e) k)) ∙ ap (λ (z : Sort). form_in d (grammar.primary z) names ts) (sym e)
+  primary_open x e h = primary_room d (ahead names ts) (λ k. h (subst (λ (z : Sort). nests_first z ≡ true) (sym e) k)) ∙ ap (λ (z : Sort). form_in d (grammar.primary m z) names ts) (sym e)
 
+module _ (d : ℕ) (names : Names) (ts : List Token) where
   -- ---- what goes on an expression
 
   module _ (left : Operand) where
@@ -175,15 +177,17 @@ module _ (d : ℕ) (names : Names) (ts rest : List Token) (o : Token) where
 
   -- casts and parentheses
 
-  pub cast_case : 0 < d → pass s.LParen (λ t. t) names ts ≡ Ok (o, place names rest) → begins_type (ahead names rest) ≡ true → form_in d grammar.bracketed_expr names ts ≡ form_in d (applied o grammar.cast) names rest
-  cast_case l e h =
-      goes_to s.LParen grammar.bracketed grammar.cast e
-      (open_guard d (grammar.bracketed (ahead names rest)) (place names rest) (form_in d (grammar.bracketed (ahead names rest)) names rest) l ∙ ap (λ (b : Bool). form_in d (if_type b grammar.cast grammar.parens) names rest) h)
+  bracketed_as : (m b : Bool) → 0 < d → pass s.LParen (λ t. t) names ts ≡ Ok (o, place names rest) → (begins_type (ahead names rest) && m) ≡ b
+      → form_in d (grammar.bracketed_expr m) names ts ≡ form_in d (applied o (if_type b grammar.cast grammar.parens)) names rest
+  bracketed_as m b l e h =
+      goes_to s.LParen (grammar.bracketed m) (if_type b grammar.cast grammar.parens) e
+      (open_guard d (grammar.bracketed m (ahead names rest)) (place names rest) (form_in d (grammar.bracketed m (ahead names rest)) names rest) l ∙ ap (λ (b : Bool). form_in d (if_type b grammar.cast grammar.parens) names rest) h)
 
-  pub paren_case : 0 < d → pass s.LParen (λ t. t) names ts ≡ Ok (o, place names rest) → begins_type (ahead names rest) ≡ false → form_in d grammar.bracketed_expr names ts ≡ form_in d (applied o grammar.parens) names rest
-  paren_case l e h =
-      goes_to s.LParen grammar.bracketed grammar.parens e
-      (open_guard d (grammar.bracketed (ahead names rest)) (place names rest) (form_in d (grammar.bracketed (ahead names rest)) names rest) l ∙ ap (λ (b : Bool). form_in d (if_type b grammar.cast grammar.parens) names rest) h)
+  pub cast_case : (m : Bool) → 0 < d → pass s.LParen (λ t. t) names ts ≡ Ok (o, place names rest) → (begins_type (ahead names rest) && m) ≡ true → form_in d (grammar.bracketed_expr m) names ts ≡ form_in d (applied o grammar.cast) names rest
+  cast_case m = bracketed_as m true
+
+  pub paren_case : (m : Bool) → 0 < d → pass s.LParen (λ t. t) names ts ≡ Ok (o, place names rest) → (begins_type (ahead names rest) && m) ≡ false → form_in d (grammar.bracketed_expr m) names ts ≡ form_in d (applied o grammar.parens) names rest
+  paren_case m = bracketed_as m false
 
   -- what `sizeof` measures
 

@@ -1,5 +1,5 @@
 -- Parts of forms of the grammar, each read by a function of its own.
-use Rattle.std.specs.Prelude.{◌≡◌, ℕ}
+use Rattle.std.specs.Prelude.{Bool}
 use Rattle.nm_base.specs.declared.token.Token.{Token}
 use Rattle.nesc_tree.specs.declared.operand.Operand.{Operand}
 use Rattle.nesc_tree.specs.declared.operand.Arguments.{Arguments}
@@ -17,8 +17,12 @@ closed_arguments = grammar.arguments_of s.RParen
 abbrev pub open_arguments : Form Arguments
 open_arguments = grammar.before grammar.some_arguments (grammar.one s.RParen)
 
-abbrev pub primary : Form Operand
-primary = Form.by grammar.primary
+abbrev pub primary : Bool → Form Operand
+primary may_cast = Form.by (grammar.primary may_cast)
+
+-- what is behind the name of an item, for this call
+abbrev pub item_behind : Token → Token → Token → Form Operand
+item_behind item element word = grammar.applied word (grammar.applied element (grammar.applied item grammar.call_arguments))
 
 -- what `sizeof` measures, by this word
 abbrev pub size_type : Token → Token → Form Operand

@@ -7,6 +7,7 @@ ghost use Rattle.nesc_grammar.specs.Production.{production};
 ghost use Rattle.nesc_parse_types.specs.Gives.{Gives, Nests, form_in};
 ghost use Rattle.nesc_parse_exprs.specs.Climbing.{opened_form};
 
+use nesc_operands::precedence::admits_cast;
 use nesc_parse_types::{Found, Reader};
 use nesc_tree::{Fields, Operand, TypeNames, level};
 use nm_base::Token;
@@ -29,7 +30,7 @@ impl<
         requires nests { Nests self.now.reader.spare (E.pre self.now.reader.expr) (E.post self.now.reader.expr) (O.pre self.now.reader.opened) (O.post self.now.reader.opened) (F.pre self.now.reader.fields) (F.post self.now.reader.fields) }
         ensures { Gives self.now.reader.names.now result (form_in self.now.reader.spare (production (phrase.Phrase.expr least)) self.now.reader.names.now ts.now) }
     {
-        let (first, rest) = self.primary(ts)?;
+        let (first, rest) = self.primary(admits_cast(least), ts)?;
         self.climb(least, first, rest)
     }
 

@@ -1,7 +1,9 @@
 //! Reading the operands that expressions begin with (C99 6.5.1, 6.5.3, 6.5.4), and arguments.
 
-ghost use Rattle.std.specs.Prelude.{◌≡◌, ◌≤◌, ◌<◌, ◌^◌, IfOk, true};
+ghost use Rattle.std.specs.Prelude.{◌≡◌, ◌≤◌, ◌<◌, ◌^◌, ◌&&◌, IfOk, true};
 ghost use Rattle.nesc_tree.specs.Form as form;
+ghost use Rattle.nesc_tree.specs.Phrase as phrase;
+ghost use Rattle.nesc_tree.specs.Sorts as sorts;
 ghost use Rattle.nesc_grammar.specs.Grammar as grammar;
 ghost use Rattle.nesc_parse_types.specs.Gives.{Gives, Nests, form_in};
 ghost use Rattle.nesc_operands.specs.Guards as guards;
@@ -19,6 +21,13 @@ use nesc_parse_types::{Found, Stop, begins_type, expect, is_comma, name};
 use nesc_tree::{Arguments, Fields, Operand, Sort, TypeNames, ahead, level, same_sort};
 use nm_base::Token;
 use std::alloc::Global;
+
+/// Whether a cast is behind a `(`, and no expression.
+fn is_cast(names: &TypeNames, may_cast: bool, ts: &[Token]) -> bool
+    ensures { result ≡ (phrase.begins_type (sorts.ahead names.now ts.now) && may_cast) }
+{
+    begins_type(ahead(names, ts)) && may_cast
+}
 
 impl<
     'a,
@@ -104,6 +113,26 @@ impl<
         Ok((Some(param), rest))
     }
 
+    /// The parameter and the arguments of a call of an item, and the call.
+    #[tactic(auto, unfolding(nesc_tree::specs::Reading::read))]
+    fn item_behind(
+        &self,
+        item: &Token,
+        element: &Token,
+        word: &Token,
+        ts: &'a [Token],
+    ) -> Found<'a, Operand>
+        requires nests { Nests self.now.reader.spare (E.pre self.now.reader.expr) (E.post self.now.reader.expr) (O.pre self.now.reader.opened) (O.post self.now.reader.opened) (F.pre self.now.reader.fields) (F.post self.now.reader.fields) }
+        ensures { Gives self.now.reader.names.now result (form_in self.now.reader.spare (parts.item_behind item.now element.now word.now) self.now.reader.names.now ts.now) }
+    {
+        let (param, rest) = self.param(ts)?;
+        let (arguments, rest) = self.arguments(rest)?;
+        Ok((
+            item_operand(self.reader.alloc, param, arguments, item, element, word)?,
+            rest,
+        ))
+    }
+
     /// `call` or `signal` of an item.
     #[tactic(auto, unfolding(nesc_tree::specs::Reading::read))]
     fn call_item(&self, ts: &'a [Token]) -> Found<'a, Operand>
@@ -114,12 +143,7 @@ impl<
         let (element, rest) = name(self.reader.names, rest)?;
         let (_, rest) = expect(self.reader.names, Sort::Dot, rest)?;
         let (item, rest) = name(self.reader.names, rest)?;
-        let (param, rest) = self.param(rest)?;
-        let (arguments, rest) = self.arguments(rest)?;
-        Ok((
-            item_operand(self.reader.alloc, param, arguments, item, element, word)?,
-            rest,
-        ))
+        self.item_behind(item, element, word, rest)
     }
 
     #[tactic(auto, unfolding(nesc_tree::specs::Reading::read))]
@@ -210,15 +234,15 @@ impl<
         Ok((paren_operand(inner, opening), rest))
     }
 
-    /// A cast, or an expression between parentheses.
+    /// A cast, where one may stand, or an expression between parentheses.
     #[tactic(auto, unfolding(nesc_tree::specs::Reading::read))]
-    fn bracketed(&self, ts: &'a [Token]) -> Found<'a, Operand>
+    fn bracketed(&self, may_cast: bool, ts: &'a [Token]) -> Found<'a, Operand>
         requires nests { Nests self.now.reader.spare (E.pre self.now.reader.expr) (E.post self.now.reader.expr) (O.pre self.now.reader.opened) (O.post self.now.reader.opened) (F.pre self.now.reader.fields) (F.post self.now.reader.fields) }
         requires room { 0 < self.now.reader.spare }
-        ensures { Gives self.now.reader.names.now result (form_in self.now.reader.spare grammar.bracketed_expr self.now.reader.names.now ts.now) }
+        ensures { Gives self.now.reader.names.now result (form_in self.now.reader.spare (grammar.bracketed_expr may_cast) self.now.reader.names.now ts.now) }
     {
         let (opening, rest) = expect(self.reader.names, Sort::LParen, ts)?;
-        if begins_type(ahead(self.reader.names, rest)) {
+        if is_cast(self.reader.names, may_cast, rest) {
             self.cast(opening, rest)
         } else {
             self.parens(opening, rest)
@@ -279,19 +303,19 @@ impl<
         }
     }
 
-    /// The operand that a token of this sort begins.
+    /// The operand that a token of this sort begins, where a cast may stand or may not.
     #[tactic(auto, unfolding(nesc_tree::specs::Reading::read))]
-    fn primary_of(&self, first: Sort, ts: &'a [Token]) -> Found<'a, Operand>
+    fn primary_of(&self, first: Sort, may_cast: bool, ts: &'a [Token]) -> Found<'a, Operand>
         requires nests { Nests self.now.reader.spare (E.pre self.now.reader.expr) (E.post self.now.reader.expr) (O.pre self.now.reader.opened) (O.post self.now.reader.opened) (F.pre self.now.reader.fields) (F.post self.now.reader.fields) }
         requires room { guards.nests_first first ≡ true → 0 < self.now.reader.spare }
-        ensures { Gives self.now.reader.names.now result (form_in self.now.reader.spare (grammar.primary first) self.now.reader.names.now ts.now) }
+        ensures { Gives self.now.reader.names.now result (form_in self.now.reader.spare (grammar.primary may_cast first) self.now.reader.names.now ts.now) }
     {
         match first {
             Sort::Word => name_leaf(self.reader.alloc, self.reader.names, ts),
             Sort::Number => number_leaf(self.reader.alloc, self.reader.names, ts),
             Sort::Char => char_leaf(self.reader.alloc, self.reader.names, ts),
             Sort::Null => null_leaf(self.reader.names, ts),
-            Sort::LParen => self.bracketed(ts),
+            Sort::LParen => self.bracketed(may_cast, ts),
             Sort::Plus => self.signed(Sort::Plus, level::CAST, ts),
             Sort::Minus => self.signed(Sort::Minus, level::CAST, ts),
             Sort::Star => self.signed(Sort::Star, level::CAST, ts),
@@ -308,15 +332,15 @@ impl<
         }
     }
 
-    /// The operand that an expression begins with.
-    pub fn primary(&self, ts: &'a [Token]) -> Found<'a, Operand>
+    /// The operand that an expression begins with, where a cast may stand or may not.
+    pub fn primary(&self, may_cast: bool, ts: &'a [Token]) -> Found<'a, Operand>
         requires nests { Nests self.now.reader.spare (E.pre self.now.reader.expr) (E.post self.now.reader.expr) (O.pre self.now.reader.opened) (O.post self.now.reader.opened) (F.pre self.now.reader.fields) (F.post self.now.reader.fields) }
-        ensures { Gives self.now.reader.names.now result (form_in self.now.reader.spare parts.primary self.now.reader.names.now ts.now) }
+        ensures { Gives self.now.reader.names.now result (form_in self.now.reader.spare (parts.primary may_cast) self.now.reader.names.now ts.now) }
     {
         let first = ahead(self.reader.names, ts);
         if self.reader.is_full(nests_first(first)) {
             return Err(Stop::Deep(ts));
         }
-        self.primary_of(first, ts)
+        self.primary_of(first, may_cast, ts)
     }
 }
