@@ -1,4 +1,5 @@
 pub mod Turns
+pub mod Closed
 pub mod Dispatch
 pub mod Climb
 pub mod BehindParen

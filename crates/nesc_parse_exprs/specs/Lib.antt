@@ -1,4 +1,5 @@
 pub mod Climbing
+pub mod Closed
 pub mod Growing
 pub mod Parts
 pub mod Stops

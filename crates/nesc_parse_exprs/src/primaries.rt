@@ -108,8 +108,7 @@ impl<
             return Err(Stop::Deep(ts));
         }
         let (_, rest) = expect(self.reader.names, Sort::LBracket, ts)?;
-        let (param, rest) = self.reader.nested_expr(level::ASSIGNMENT, rest)?;
-        let (_, rest) = expect(self.reader.names, Sort::RBracket, rest)?;
+        let (param, rest) = self.closed(level::ASSIGNMENT, Sort::RBracket, rest)?;
         Ok((Some(param), rest))
     }
 
@@ -153,8 +152,7 @@ impl<
     {
         let (word, rest) = expect(self.reader.names, Sort::PortRead, ts)?;
         let (_, rest) = expect(self.reader.names, Sort::LParen, rest)?;
-        let (port, rest) = self.reader.nested_expr(level::CONDITIONAL, rest)?;
-        let (_, rest) = expect(self.reader.names, Sort::RParen, rest)?;
+        let (port, rest) = self.closed(level::CONDITIONAL, Sort::RParen, rest)?;
         Ok((port_read_operand(self.reader.alloc, word, port)?, rest))
     }
 
@@ -166,9 +164,7 @@ impl<
         ensures fits { IfOk result (λ x. x.0.height ≤ self.now.reader.spare) }
     {
         let (_, rest) = expect(self.reader.names, Sort::LParen, ts)?;
-        let (port, rest) = self.reader.nested_expr(level::CONDITIONAL, rest)?;
-        let (_, rest) = expect(self.reader.names, Sort::Comma, rest)?;
-        Ok((port, rest))
+        self.closed(level::CONDITIONAL, Sort::Comma, rest)
     }
 
     /// The value of `port_write`, with the `)` behind it.
@@ -178,9 +174,7 @@ impl<
         ensures gives { Gives self.now.reader.names.now result (form_in self.now.reader.spare parts.port_value self.now.reader.names.now ts.now) }
         ensures fits { IfOk result (λ x. x.0.height ≤ self.now.reader.spare) }
     {
-        let (value, rest) = self.reader.nested_expr(level::ASSIGNMENT, ts)?;
-        let (_, rest) = expect(self.reader.names, Sort::RParen, rest)?;
-        Ok((value, rest))
+        self.closed(level::ASSIGNMENT, Sort::RParen, ts)
     }
 
     #[tactic(auto, unfolding(nesc_tree::specs::Reading::read))]
