@@ -1,7 +1,6 @@
 -- A check's code, laid out in an image, is the routine of its number there.
 use Rattle.std.proofs.Common.{Some, ◌≡◌, ℕ, suc, ◌+◌, ◌-◌, ◌*◌, ◌%◌, ◌<◌, ◌≤◌, ◌==◌, ◌&&◌, not, Bool, true, false, cond, List, [], ◌∷◌, ◌++◌, length, refl, sym, ap, ◌∙◌, subst, arith}
-use mathlib.Core.Logic.{inl, inr}
-use Rattle.std.specs.Prelude.{nat_lt, pos, slice_get, slice_index}
+use Rattle.std.specs.Prelude.{nat_lt, slice_get, slice_index}
 use Rattle.std.proofs.lemmas.Bool.Decides.{nat_tests}
 use Rattle.std.proofs.Math.Nat.{mod-le}
 use Rattle.std.specs.List.{All}
@@ -13,7 +12,7 @@ use Rattle.msp_isa.specs.declared.instr.Cond.TheVariants.{Jeq}
 use Rattle.msp_isa.specs.declared.instr.Instr.TheVariants.{Two}
 use Rattle.msp_isa.specs.declared.instr.Op2.TheVariants.{Mov}
 use Rattle.msp_isa.specs.declared.instr.Operand.TheVariants.{Reg, Increment}
-use Rattle.msp_isa.specs.Stands.{AreAt, IsLaid, LeadsTo, instructions, items_of, words_to}
+use Rattle.msp_isa.specs.Stands.{IsLaid, items_of}
 use Rattle.msp430_cpu.specs.Cpu.{even, reg}
 use Rattle.mid_code.specs.declared.code.Check.{Check}
 use Rattle.mid_code.specs.declared.code.MidCode.{MidCode}
@@ -27,7 +26,7 @@ use Rattle.open_law.proofs.Quiet.{reg_plain}
 use Rattle.msp_select.specs.Routine.{Ends, Hold, IsGoing, IsPassed, Turns}
 use Rattle.msp_runtime.specs.Code.{Code, Nothing, Registers, depth, is_formed, is_operand, items_from, labels, leaves, leaves_others, return, weight}
 use Rattle.msp_runtime.proofs.Running.{Jumps, Stand}
-use Rattle.msp_runtime.proofs.Standing.{Holds, IsPlaced, all_hold, first_holds, leads_to, rest_holds, single, stand_at}
+use Rattle.msp_runtime.proofs.Standing.{Holds, IsPlaced, all_hold, first_holds, jumps_at, label_at, rest_holds, single, stand_at}
 use Rattle.msp_checks.specs.Checks.{IsOfWords, IsWordRun, check_code, checked_items, last_of, match_code, raise, run_code, runs_code, runs_of}
 use Rattle.msp_checks.specs.Laws.{ChecksAreRoutines, ChecksAreShort}
 use Rattle.msp_checks.proofs.Ending.{given_where, turns}
@@ -87,16 +86,9 @@ runs_plain size (run ∷ runs) ok =
       leaves = λ r l. and_both _ _ (a.leaves r l) (b.leaves r l);
     }
 
-runs_words : (check : Check) → IsOfWords check → All IsWordRun (runs_of check)
-runs_words check ok = by (check.size == 0)
-  where
-    by : (b : Bool) → All IsWordRun (cond b [] check.runs)
-    by true = λ i d lt. absurd (omega (arith, lt))
-    by false = ok.runs
-
 module _ (check : Check) (ok : IsOfWords check) where
   plain : IsPlain (runs_code check.size (runs_of check))
-  plain = runs_plain check.size (runs_of check) (runs_words check ok)
+  plain = runs_plain check.size (runs_of check) ok.runs
 
   formed : is_formed (check_code check) ≡ true
   formed = let o = operand check.size ok.size in let p = plain.formed in rw (o, p) refl
@@ -181,9 +173,6 @@ module _ (c : Code) (formed : is_formed c ≡ true) (image : ℕ → ℕ) (data_
   placed : IsPlaced image data_end marks 0 entries out laid f inside 0
   placed = let e = laid.entry f inside in record { is_even = subst (λ n. even n ≡ n) (sym e) is_even; small = subst (λ n. n < 0x10000) (sym e) small }
 
-  next : (k : ℕ) → place (k + 1) ≡ place (suc k)
-  next k = ap place (let z : k + 1 ≡ suc k = omega arith in z)
-
   raised : IsMarked image marks (place (suc n)) [] raise
   raised = (single image data_end marks 0 entries out laid f inside unmarked (suc n) raise tail.2.0 tail.2.1).0
 
@@ -192,29 +181,13 @@ module _ (c : Code) (formed : is_formed c ≡ true) (image : ℕ → ℕ) (data_
 
   -- a label takes no room
   label : place (suc (suc n)) ≡ place (suc (suc (suc n)))
-  label =
-      let e = tail.2.2.1 in
-      subst (λ x. AreAt image (place (suc (suc n))) (instructions entries (laid.long f (suc (suc n))) (place (suc (suc n))) (place 0) x) (place (suc (suc n) + 1))) e (laid.stands f (suc (suc n)) 0 inside tail.2.2.0 (subst (λ x. LeadsTo items x 0) (sym e) tt))
-      ∙ next (suc (suc n))
+  label = label_at image data_end marks 0 entries out laid f inside unmarked (suc (suc n)) l tail.2.2.0 tail.2.2.1
 
-  target_even : even (place (suc (suc n))) ≡ place (suc (suc n))
-  target_even = let e = label in let r = returned.at.even in omega (arith, e, r)
-
-  target_small : place (suc (suc n)) < 0x10000
-  target_small = let e = label in let r = returned.at.high in omega (arith, e, r)
+  target : (sp0 : ℕ) → IsPlaced image data_end marks sp0 entries out laid f inside (suc (suc n))
+  target sp0 = let e = label in let r = returned.at.even in let h = returned.at.high in record { is_even = omega (arith, e, r); small = omega (arith, e, h) }
 
   jumps : (sp0 : ℕ) → Jumps image data_end marks sp0 (place n) (place (suc (suc n))) (place (suc n)) Jeq
-  jumps sp0 = by (laid.long f n) (subst (λ x. AreAt image (place n) (instructions entries (laid.long f n) (place n) (place (suc (suc n))) x) (place (n + 1))) tail.1 (laid.stands f n (suc (suc n)) inside tail.0 (subst (λ x. LeadsTo items x (suc (suc n))) (sym tail.1) tail.2.2.1)))
-    where
-      by : (long : Bool) → AreAt image (place n) (instructions entries long (place n) (place (suc (suc n))) (item.Jump Jeq l)) (place (n + 1)) → Jumps image data_end marks sp0 (place n) (place (suc (suc n))) (place (suc n)) Jeq
-      by false st = inl (record { offset = words_to (place n + 2) (place (suc (suc n))); at = record { at = st.0; table = unmarked n (place n) tail.0 (omega arith) (let z = st.1 in omega (arith, z)) }; leads = leads_to (place n) (place (suc (suc n))) st.0.even st.0.high target_even target_small }, st.1 ∙ next n)
-      by true st = inr (record {
-        over = record { offset = pos 2; at = record { at = st.0; table = unmarked n (place n) tail.0 (omega arith) (let z = st.1.1 in omega (arith, z)) }; leads = let h = st.0.high in omega (arith, h) };
-        goes = record { at = st.1.0; table = unmarked n (place n + 2) tail.0 (omega arith) (let z = st.1.1 in omega (arith, z)) };
-        behind = (let z : place n + 6 ≡ place n + 2 + 4 = omega arith in z) ∙ st.1.1 ∙ next n;
-        even_target = target_even;
-        small_target = target_small;
-      })
+  jumps sp0 = jumps_at image data_end marks sp0 entries out laid f inside unmarked n (suc (suc n)) Jeq l refl tail.0 (target sp0) tail.1 tail.2.2.1
 
   stands : (sp0 : ℕ) → Stand image data_end marks sp0 c (entries f) (place n)
   stands sp0 =

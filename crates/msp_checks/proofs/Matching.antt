@@ -199,7 +199,7 @@ module _ (check : Check) (ok : IsOfWords check) (x : ℕ) (small : x < 0x10000) 
       let all_runs : runs_of check ≡ check.runs = rw e refl in
       let part : is_part (Some check) x ≡ list_any (is_in_run check.size x) check.runs = rw e refl in
       subst (λ rs. Ends (Then (runs_code check.size rs) told) s (Tells (is_part (Some check) x))) (sym all_runs)
-      (then (after (runs_do x check.size small some ok.size check.runs false s ok.runs (record { pointer = p; remainder = r }))
+      (then (after (runs_do x check.size small some ok.size check.runs false s (subst (λ rs. All IsWordRun rs) all_runs ok.runs) (record { pointer = p; remainder = r }))
       (λ s1 g. subst (λ b. Ends told s1 (Tells b)) (sym part) (tells_found x check.size (list_any (is_in_run check.size x) check.runs) some ok.size s1 g))))
 
   searched : (s : Registers) → s.regs 12 ≡ x → s.regs 14 ≡ cond (check.size == 0) 0 (x % check.size) → Ends (Then (runs_code check.size (runs_of check)) told) s (Tells (is_part (Some check) x))

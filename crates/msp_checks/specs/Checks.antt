@@ -11,7 +11,8 @@ use Rattle.msp_isa.specs.declared.instr.Op2.TheVariants.{Mov, Cmp}
 use Rattle.msp_isa.specs.declared.instr.Operand.TheVariants.{Absolute, Immediate}
 use Rattle.mid_code.specs.declared.code.Check.{Check}
 use Rattle.open_law.specs.Homes.{literal}
-use Rattle.msp_runtime.specs.Code.{Code, Nothing, Do, Then, Skip, Keeping, depth, items_from, labels, return, weight}
+use Rattle.msp_runtime.specs.Code.{Code, Nothing, Do, Then, Skip, Keeping, items_from, labels, return, weight}
+use Rattle.msp_runtime.specs.Emitted.{routine_fn}
 use Rattle.msp_runtime.specs.Routines.{all, compare, divide, set, where_least}
 
 -- an address above those of memory, and no remainder
@@ -54,7 +55,7 @@ abbrev pub check_items : Check → List Item
 check_items check = checked_items (check_code check)
 
 abbrev pub check_fn : Check → CodeFn
-check_fn check = record { frame = depth (check_code check); items = check_items check; calls = [] }
+check_fn check = routine_fn (check_items check)
 
 abbrev pub check_fns : List Check → List CodeFn
 check_fns checks = map check_fn checks
@@ -63,10 +64,10 @@ check_fns checks = map check_fn checks
 abbrev pub check_most : Check → ℕ
 check_most check = weight (check_code check) + 4
 
--- sizes and addresses are words
+-- the size and the addresses of runs are words
 abbrev pub IsWordRun : ℕ × ℕ → Type 0
 IsWordRun run = run.0 < 0x10000
 
 pub record IsOfWords (check : Check) : Type 0 where
   pub size : check.size < 0x10000
-  pub runs : All IsWordRun check.runs
+  pub runs : All IsWordRun (runs_of check)

@@ -215,12 +215,12 @@ module _ (image : ℕ → ℕ) (data_end : ℕ) (marks : ℕ → List Action) (s
     good : (d pc : ℕ) (st : Registers) (stack : ℕ → ℕ) → IsSettled d st → even pc ≡ pc → pc < 0x10000 → marks pc ≡ [] → Good (at pc st stack)
     good d pc st stack s ev sm un = record { even_pc = ev; small_pc = sm; unmarked = un; settled = less_deep d 0 st (omega arith) s; gate = refl }
 
-    one : (b : ℕ) (v w : View) → Good v → Takes image data_end marks sp0 v w → w.made ≡ v.made → Reach b w → Reach (suc b) v
+    pub one : (b : ℕ) (v w : View) → Good v → Takes image data_end marks sp0 v w → w.made ≡ v.made → Reach b w → Reach (suc b) v
     one b v w g t x r = let l = r.1 in (suc r.0, omega (arith, l), step image data_end marks sp0 Good Next Post r.0 v w g t x r.2)
 
     -- room, awake and no fault
     module _ (d pc : ℕ) (st : Registers) (stack : ℕ → ℕ) (s : IsSettled d st) where
-      ready : IsRoom data_end (sp0 + 2) (at pc st stack) × (bit st.sr 4 ≡ false) × ((at pc st stack).faulted ≡ None)
+      pub ready : IsRoom data_end (sp0 + 2) (at pc st stack) × (bit st.sr 4 ≡ false) × ((at pc st stack).faulted ≡ None)
       ready = (record { objects = objects; low = (let x = s.deep in omega (arith, room, x)); inside = (let y = s.below in omega (arith, within, y)); high = high; even_sp = s.even_sp }, s.awake, refl)
 
       has : (o : Source) → is_operand o ≡ true → HasAt (sp0 + 2) st.sp st.regs stack o (value_of o st.regs)
@@ -313,7 +313,7 @@ module _ (image : ℕ → ℕ) (data_end : ℕ) (marks : ℕ → List Action) (s
         (jump image data_end marks sp0 (at pc st stack) (reversed c) (pc + 6) true (ready d pc st stack s) far.over (reversed_not c st.sr short ∙ ap not e)) refl
         (gated b (pc + 6) st stack s.gie (subst (λ n. Reach b (at n st stack)) (sym far.behind) more))
 
-    leaps : (b d pc target next : ℕ) (c : Cond) (st : Registers) (stack : ℕ → ℕ) (taken : Bool) → is_short c ≡ true → Jumps pc target next c → IsSettled d st → is_taken c st.sr ≡ taken → Reach b (at (cond taken target next) st stack) → Reach (suc (suc b)) (at pc st stack)
+    pub leaps : (b d pc target next : ℕ) (c : Cond) (st : Registers) (stack : ℕ → ℕ) (taken : Bool) → is_short c ≡ true → Jumps pc target next c → IsSettled d st → is_taken c st.sr ≡ taken → Reach b (at (cond taken target next) st stack) → Reach (suc (suc b)) (at pc st stack)
     leaps b d pc target next c st stack taken short (inl near) s e more =
         let here = good d pc st stack s (let x = near.0.at.at.even in omega (arith, x)) (let y = near.0.at.at.high in omega (arith, y)) near.0.at.table in
         wider (suc b) (suc (suc b)) (at pc st stack) (omega arith)

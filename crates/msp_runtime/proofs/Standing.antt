@@ -76,7 +76,7 @@ area_end image (i ∷ is) pc end at s =
     area_end image is (pc + 2 * length (encoded i)) end at.1 (omega (arith, e), omega (arith, f, h))
 
 -- where a jump leads from its place
-pub leads_to : (pc target : ℕ) → pc % 2 ≡ 0 → pc + 6 < 0x10000 → even target ≡ target → target < 0x10000 → jumped (pc + 2) (words_to (pc + 2) target) ≡ target
+leads_to : (pc target : ℕ) → pc % 2 ≡ 0 → pc + 6 < 0x10000 → even target ≡ target → target < 0x10000 → jumped (pc + 2) (words_to (pc + 2) target) ≡ target
 leads_to pc target ev hi et small = by (nat_le (pc + 2) target) refl
   where
     by : (t : Bool) → nat_le (pc + 2) target ≡ t → jumped (pc + 2) (if t then pos ((target - (pc + 2)) / 2) else negsuc ((pc + 2 - target - 1) / 2)) ≡ target
@@ -163,7 +163,7 @@ module _ (image : ℕ → ℕ) (data_end : ℕ) (marks : ℕ → List Action) (s
         subst IsPlaced (let e = length-append xs tail in let z : suc (suc n) ≡ k + suc (length (xs ++ tail)) = omega (arith, e) in z)
         (placed_is (suc n) (Two op2.Add false (Constant 2) (Reg 1)) behind.2.0 behind.2.1 (placed_is n (Two op2.Mov false (Indexed 1 0) (Reg r)) behind.0 behind.1 inner))
 
-    jumps_at : (k t : ℕ) (c : Cond) (l : ℕ) → is_short c ≡ true → k < length items → IsPlaced t → item_at items k ≡ item.Jump c l → item_at items t ≡ item.Label l → Jumps image data_end marks sp0 (place k) (place t) (place (suc k)) c
+    pub jumps_at : (k t : ℕ) (c : Cond) (l : ℕ) → is_short c ≡ true → k < length items → IsPlaced t → item_at items k ≡ item.Jump c l → item_at items t ≡ item.Label l → Jumps image data_end marks sp0 (place k) (place t) (place (suc k)) c
     jumps_at k t c l short lt le e label = by (laid.long f k) (subst (λ x. AreAt image (place k) (instructions entries (laid.long f k) (place k) (place t) x) (place (k + 1))) e (laid.stands f k t inside lt (subst (λ x. LeadsTo items x t) (sym e) label)))
       where
         next : place (k + 1) ≡ place (suc k)
@@ -181,7 +181,7 @@ module _ (image : ℕ → ℕ) (data_end : ℕ) (marks : ℕ → List Action) (s
               small_target = le.small;
             })
 
-    label_at : (k l : ℕ) → k < length items → item_at items k ≡ item.Label l → place k ≡ place (suc k)
+    pub label_at : (k l : ℕ) → k < length items → item_at items k ≡ item.Label l → place k ≡ place (suc k)
     label_at k l lt e = subst (λ x. AreAt image (place k) (instructions entries (laid.long f k) (place k) (place 0) x) (place (k + 1))) e (laid.stands f k 0 inside lt (subst (λ x. LeadsTo items x 0) (sym e) tt)) ∙ ap place (let z : k + 1 ≡ suc k = omega arith in z)
 
     -- code from a place on

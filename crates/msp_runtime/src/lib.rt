@@ -5,12 +5,14 @@ mod bytes;
 mod instructions;
 mod laws;
 mod operations;
-mod put;
+mod pieces;
 mod routines;
 mod rows;
 mod wide;
 mod words;
 
 pub use laws::{routines_are_routines, routines_are_short};
-pub use routines::{OPERATIONS, operation_routines};
+pub use pieces::put;
+pub use routines::{OPERATIONS, RETURN, ROUTINE_FRAME, operation_routines, routine_with};
 pub use rows::worked_rows;
+pub use words::put_divide;

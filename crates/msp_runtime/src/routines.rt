@@ -1,9 +1,9 @@
 //! The routines of all operations, by their numbers.
 
-ghost use Rattle.std.specs.Prelude.{◌≡◌, ◌++◌, ◌<◌, ◌/◌, ◌%◌, IfOk, OnOk};
+ghost use Rattle.std.specs.Prelude.{◌≡◌, ◌/◌, ◌%◌, IfOk};
 ghost use Rattle.mid_code.specs.Help as help;
-ghost use Rattle.msp_runtime.specs.Code.{Nothing, depth};
-ghost use Rattle.msp_runtime.specs.Emitted.{code_fn, operation_fns};
+ghost use Rattle.msp_runtime.specs.Code.{Nothing};
+ghost use Rattle.msp_runtime.specs.Emitted.{code_fn, operation_fns, routine_fn};
 ghost use Rattle.msp_runtime.specs.Routines as routines;
 
 use crate::operations::put_operation;
@@ -15,10 +15,21 @@ use std::alloc::Global;
 /// How many numbers stand for operations, used or not.
 pub const OPERATIONS: u32 = 48;
 
-const RETURN: Item = Item::Is(Instr::Two(Op2::Mov, false, Operand::Increment(1), Operand::Reg(0)));
+/// The bytes of stack that selected code sets aside for any routine, below its return address.
+pub const ROUTINE_FRAME: u16 = 58;
+
+/// MOV @SP+, PC.
+pub const RETURN: Item = Item::Is(Instr::Two(
+    Op2::Mov,
+    false,
+    Operand::Increment(1),
+    Operand::Reg(0),
+));
 
 /// The routine of each number below 48: values in registers from R12 on, and the result there. A number without an operation has
-/// a lone RET. A routine calls no function, and keeps R4 to R11.
+/// a lone RET. A routine calls no function, and keeps R4 to R11. Each states the frame that selected code sets aside for any routine.
+///
+/// Errors: `NoMemory` alone.
 pub fn operation_routines(alloc: Global) -> Result<Vec<CodeFn>, NoMemory>
     ensures { IfOk result (λ code. code.items ≡ operation_fns) }
 {
@@ -46,11 +57,7 @@ fn lone_return(alloc: Global) -> Result<CodeFn, NoMemory>
 {
     let mut items = Vec::new(alloc);
     items.push(RETURN)?;
-    Ok(CodeFn {
-        frame: 0,
-        items: List::new(items),
-        calls: List::new(Vec::new(alloc)),
-    })
+    Ok(routine_with(alloc, items))
 }
 
 fn routine_of(alloc: Global, t: IntType, operation: HelpOp) -> Result<CodeFn, NoMemory>
@@ -59,24 +66,17 @@ fn routine_of(alloc: Global, t: IntType, operation: HelpOp) -> Result<CodeFn, No
     let mut items = Vec::new(alloc);
     put_operation(&mut items, t, operation)?;
     items.push(RETURN)?;
-    Ok(CodeFn {
-        frame: pushed(t, operation),
-        items: List::new(items),
-        calls: List::new(Vec::new(alloc)),
-    })
+    Ok(routine_with(alloc, items))
 }
 
-// The bytes that a routine pushes.
-fn pushed(t: IntType, operation: HelpOp) -> u16
-    ensures { result ≡ depth (routines.code_for t operation) }
+/// A routine with these items.
+pub fn routine_with(alloc: Global, items: Vec<Item>) -> CodeFn
+    ensures { result ≡ routine_fn items.items }
 {
-    match (t, operation) {
-        (IntType::I8 | IntType::I16, HelpOp::Div | HelpOp::Rem) => 2,
-        (IntType::I32, HelpOp::Div | HelpOp::Rem) => 8,
-        (IntType::U32, HelpOp::Div | HelpOp::Rem) => 6,
-        (IntType::I32 | IntType::U32, HelpOp::Mul) => 6,
-        (IntType::I32 | IntType::U32, HelpOp::Shr) => 4,
-        _ => 0,
+    CodeFn {
+        frame: ROUTINE_FRAME,
+        items: List::new(items),
+        calls: List::new(Vec::new(alloc)),
     }
 }
 

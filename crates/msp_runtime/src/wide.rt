@@ -2,11 +2,11 @@
 
 ghost use Rattle.std.specs.Prelude.{◌≡◌, ◌++◌, OnOk, map, true, false};
 ghost use Rattle.msp_runtime.specs.Code.{items_from};
-ghost use Rattle.msp_runtime.specs.Pieces.{shifted};
+ghost use Rattle.msp_runtime.specs.Pieces.{shifted, signed_end, signed_start};
 ghost use Rattle.msp_runtime.specs.Routines as routines;
 
 use crate::instructions::{DROP, jump, push, restore, two};
-use crate::put::put;
+use crate::pieces::put;
 use msp_isa::{Cond, Instr, Item, Op1, Op2, Operand};
 use nm_base::NoMemory;
 
@@ -215,9 +215,9 @@ pub(crate) fn put_quotient_wide(items: &mut Vec<Item>) -> Result<(), NoMemory>
     )
 }
 
-/// x divided by y with their signs, in R12 and R13.
-pub(crate) fn put_quotient_signed_wide(items: &mut Vec<Item>) -> Result<(), NoMemory>
-    ensures { OnOk result (items.new.items ≡ items.old.items ++ items_from (routines.quotient_wide true) 0) }
+// Begins a signed division: R8 counts the signs that are taken away.
+fn put_signed_start(items: &mut Vec<Item>) -> Result<(), NoMemory>
+    ensures { OnOk result (items.new.items ≡ items.old.items ++ signed_start) }
 {
     put(
         items,
@@ -238,57 +238,27 @@ pub(crate) fn put_quotient_signed_wide(items: &mut Vec<Item>) -> Result<(), NoMe
             two!(Mov, reg 11, 13),
             two!(Add, made 1, 8),
             Item::Label(0),
-            two!(Cmp, number 0x8000, 15),
-            jump!(Jnc, 1),
-            two!(Mov, made 0, 10),
-            two!(Mov, made 0, 11),
-            two!(Sub, reg 14, 10),
-            two!(Subc, reg 15, 11),
-            two!(Mov, reg 10, 14),
-            two!(Mov, reg 11, 15),
-            two!(Add, made 1, 8),
-            Item::Label(1),
-            two!(Mov, reg 14, 9),
-            two!(Bis, reg 15, 9),
-            two!(Cmp, made 1, 9),
-            jump!(Jc, 2),
-            two!(Mov, made 0, 12),
-            two!(Mov, made 0, 13),
-            two!(Mov, made 1, 14),
-            Item::Label(2),
-            two!(Mov, made 0, 10),
-            two!(Mov, made 0, 11),
-            two!(Mov, number 32, 9),
-            two!(Cmp, made 0, 9),
-            jump!(Jeq, 3),
-            Item::Label(4),
-            two!(Add, reg 12, 12),
-            two!(Addc, reg 13, 13),
-            two!(Addc, reg 10, 10),
-            two!(Addc, reg 11, 11),
-            jump!(Jc, 5),
-            two!(Cmp, reg 15, 11),
-            jump!(Jne, 6),
-            two!(Cmp, reg 14, 10),
-            Item::Label(6),
-            Item::Label(5),
-            jump!(Jnc, 7),
-            two!(Sub, reg 14, 10),
-            two!(Subc, reg 15, 11),
-            two!(Add, made 1, 12),
-            Item::Label(7),
-            two!(Sub, made 1, 9),
-            jump!(Jne, 4),
-            Item::Label(3),
+        ],
+    )
+}
+
+// Ends a signed division: one sign that was taken away turns the result.
+fn put_signed_end(items: &mut Vec<Item>) -> Result<(), NoMemory>
+    ensures { OnOk result (items.new.items ≡ items.old.items ++ signed_end) }
+{
+    put(
+        items,
+        8,
+        &[
             two!(Cmp, made 1, 8),
-            jump!(Jne, 8),
+            jump!(Jne, 0),
             two!(Mov, made 0, 10),
             two!(Mov, made 0, 11),
             two!(Sub, reg 12, 10),
             two!(Subc, reg 13, 11),
             two!(Mov, reg 10, 12),
             two!(Mov, reg 11, 13),
-            Item::Label(8),
+            Item::Label(0),
             restore!(11),
             DROP,
             restore!(10),
@@ -299,6 +269,32 @@ pub(crate) fn put_quotient_signed_wide(items: &mut Vec<Item>) -> Result<(), NoMe
             DROP,
         ],
     )
+}
+
+/// x divided by y with their signs, in R12 and R13.
+pub(crate) fn put_quotient_signed_wide(items: &mut Vec<Item>) -> Result<(), NoMemory>
+    ensures { OnOk result (items.new.items ≡ items.old.items ++ items_from (routines.quotient_wide true) 0) }
+{
+    put_signed_start(items)?;
+    put(
+        items,
+        1,
+        &[
+            two!(Cmp, number 0x8000, 15),
+            jump!(Jnc, 0),
+            two!(Mov, made 0, 10),
+            two!(Mov, made 0, 11),
+            two!(Sub, reg 14, 10),
+            two!(Subc, reg 15, 11),
+            two!(Mov, reg 10, 14),
+            two!(Mov, reg 11, 15),
+            two!(Add, made 1, 8),
+            Item::Label(0),
+        ],
+    )?;
+    put_divide_wide(items, 2)?;
+    put_signed_end(items)?;
+    Ok(())
 }
 
 /// What remains of x, in R12 and R13.
@@ -327,85 +323,24 @@ pub(crate) fn put_remainder_wide(items: &mut Vec<Item>) -> Result<(), NoMemory>
 pub(crate) fn put_remainder_signed_wide(items: &mut Vec<Item>) -> Result<(), NoMemory>
     ensures { OnOk result (items.new.items ≡ items.old.items ++ items_from (routines.remainder_wide true) 0) }
 {
+    put_signed_start(items)?;
     put(
         items,
-        0,
+        1,
         &[
-            push!(8),
-            push!(9),
-            push!(10),
-            push!(11),
-            two!(Mov, made 0, 8),
-            two!(Cmp, number 0x8000, 13),
-            jump!(Jnc, 0),
-            two!(Mov, made 0, 10),
-            two!(Mov, made 0, 11),
-            two!(Sub, reg 12, 10),
-            two!(Subc, reg 13, 11),
-            two!(Mov, reg 10, 12),
-            two!(Mov, reg 11, 13),
-            two!(Add, made 1, 8),
-            Item::Label(0),
             two!(Cmp, number 0x8000, 15),
-            jump!(Jnc, 1),
+            jump!(Jnc, 0),
             two!(Mov, made 0, 10),
             two!(Mov, made 0, 11),
             two!(Sub, reg 14, 10),
             two!(Subc, reg 15, 11),
             two!(Mov, reg 10, 14),
             two!(Mov, reg 11, 15),
-            Item::Label(1),
-            two!(Mov, reg 14, 9),
-            two!(Bis, reg 15, 9),
-            two!(Cmp, made 1, 9),
-            jump!(Jc, 2),
-            two!(Mov, made 0, 12),
-            two!(Mov, made 0, 13),
-            two!(Mov, made 1, 14),
-            Item::Label(2),
-            two!(Mov, made 0, 10),
-            two!(Mov, made 0, 11),
-            two!(Mov, number 32, 9),
-            two!(Cmp, made 0, 9),
-            jump!(Jeq, 3),
-            Item::Label(4),
-            two!(Add, reg 12, 12),
-            two!(Addc, reg 13, 13),
-            two!(Addc, reg 10, 10),
-            two!(Addc, reg 11, 11),
-            jump!(Jc, 5),
-            two!(Cmp, reg 15, 11),
-            jump!(Jne, 6),
-            two!(Cmp, reg 14, 10),
-            Item::Label(6),
-            Item::Label(5),
-            jump!(Jnc, 7),
-            two!(Sub, reg 14, 10),
-            two!(Subc, reg 15, 11),
-            two!(Add, made 1, 12),
-            Item::Label(7),
-            two!(Sub, made 1, 9),
-            jump!(Jne, 4),
-            Item::Label(3),
-            two!(Mov, reg 10, 12),
-            two!(Mov, reg 11, 13),
-            two!(Cmp, made 1, 8),
-            jump!(Jne, 8),
-            two!(Mov, made 0, 10),
-            two!(Mov, made 0, 11),
-            two!(Sub, reg 12, 10),
-            two!(Subc, reg 13, 11),
-            two!(Mov, reg 10, 12),
-            two!(Mov, reg 11, 13),
-            Item::Label(8),
-            restore!(11),
-            DROP,
-            restore!(10),
-            DROP,
-            restore!(9),
-            DROP,
-            restore!(8),
-            DROP,
+            Item::Label(0),
         ],
-    )
+    )?;
+    put_divide_wide(items, 2)?;
+    put(items, 0, &[two!(Mov, reg 10, 12), two!(Mov, reg 11, 13)])?;
+    put_signed_end(items)?;
+    Ok(())
 }

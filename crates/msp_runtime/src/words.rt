@@ -6,7 +6,7 @@ ghost use Rattle.msp_runtime.specs.Pieces.{shifted};
 ghost use Rattle.msp_runtime.specs.Routines as routines;
 
 use crate::instructions::{DROP, jump, push, restore, two};
-use crate::put::put;
+use crate::pieces::put;
 use msp_isa::{Cond, Instr, Item, Op1, Op2, Operand};
 use nm_base::NoMemory;
 
@@ -113,8 +113,10 @@ pub(crate) fn put_multiply(items: &mut Vec<Item>) -> Result<(), NoMemory>
     )
 }
 
-/// The quotient in R12, and the remainder in R14.
-pub(crate) fn put_divide(items: &mut Vec<Item>, first: u32) -> Result<(), NoMemory>
+/// The quotient of R12 by R13 in R12, and the remainder in R14; 0 and 0 where R13 is 0. Labels count from `first`.
+///
+/// Errors: `NoMemory` alone.
+pub fn put_divide(items: &mut Vec<Item>, first: u32) -> Result<(), NoMemory>
     ensures { OnOk result (items.new.items ≡ items.old.items ++ map (shifted first) (items_from routines.divide 0)) }
 {
     put(

@@ -7,7 +7,9 @@ use msp_isa::Item;
 use nm_base::NoMemory;
 
 /// A piece whose labels count from 0, with labels that count from `first`.
-pub(crate) fn put(items: &mut Vec<Item>, first: u32, piece: &[Item]) -> Result<(), NoMemory>
+///
+/// Errors: `NoMemory` alone.
+pub fn put(items: &mut Vec<Item>, first: u32, piece: &[Item]) -> Result<(), NoMemory>
     ensures { OnOk result (items.new.items ≡ items.old.items ++ map (shifted first) piece.now) }
 {
     for item in piece {
