@@ -1,3 +1,4 @@
 pub mod Checks
+pub mod Written
 pub mod Rows
 pub mod Laws
