@@ -90,7 +90,7 @@ module _ (check : Check) (ok : IsOfWords check) where
   plain : IsPlain (runs_code check.size (runs_of check))
   plain = runs_plain check.size (runs_of check) ok.runs
 
-  formed : is_formed (check_code check) ≡ true
+  pub formed : is_formed (check_code check) ≡ true
   formed = let o = operand check.size ok.size in let p = plain.formed in rw (o, p) refl
 
   deep : depth (check_code check) ≡ 2
@@ -118,7 +118,7 @@ runs_light : (size : ℕ) (runs : List (ℕ × ℕ)) → weight (runs_code size 
 runs_light size [] = omega arith
 runs_light size (run ∷ runs) = let a = run_light size run in let b = runs_light size runs in omega (arith, a, b)
 
-fewer : (check : Check) → length (runs_of check) ≤ length check.runs
+pub fewer : (check : Check) → length (runs_of check) ≤ length check.runs
 fewer check = by (check.size == 0)
   where
     by : (b : Bool) → length (cond b [] check.runs) ≤ length check.runs

@@ -1,0 +1,5 @@
+pub mod Labels
+pub mod Made
+pub mod Places
+pub mod Good
+pub mod Standing
