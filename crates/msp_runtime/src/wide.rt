@@ -91,31 +91,11 @@ pub(crate) fn put_shift_right_signed_wide(items: &mut Vec<Item>) -> Result<(), N
             jump!(Jnc, 0),
             two!(Mov, made 0xFFFF, 10),
             Item::Label(0),
-            two!(Mov, reg 10, 11),
-            two!(Cmp, number 32, 14),
-            jump!(Jnc, 1),
-            two!(Mov, number 32, 14),
-            Item::Label(1),
-            two!(Mov, number 32, 15),
-            two!(Sub, reg 14, 15),
-            two!(Cmp, made 0, 15),
-            jump!(Jeq, 2),
-            Item::Label(3),
-            two!(Add, reg 12, 12),
-            two!(Addc, reg 13, 13),
-            two!(Addc, reg 10, 10),
-            two!(Addc, reg 11, 11),
-            two!(Sub, made 1, 15),
-            jump!(Jne, 3),
-            Item::Label(2),
-            two!(Mov, reg 10, 12),
-            two!(Mov, reg 11, 13),
-            restore!(11),
-            DROP,
-            restore!(10),
-            DROP,
         ],
-    )
+    )?;
+    put_right_turns_wide(items, 1)?;
+    put(items, 0, &[restore!(11), DROP, restore!(10), DROP])?;
+    Ok(())
 }
 
 /// x times y, in R12 and R13.
