@@ -192,18 +192,24 @@ check_good fns check ok few =
 
 -- ---- all
 
+pub many_routines : (checks : List Check) → length (routine_fns checks) ≡ 48 + length checks
+many_routines checks = all_long (λ h. code_fn (code_at h)) checks check_fn
+
+abbrev Fine : (fns : ℕ) → CodeFn → Type 0
+Fine fns x = IsGoodFn fns x.items x.calls × (x.calls ≡ [])
+
 pub routines_can_be_laid_out : RoutinesCanBeLaidOut
 routines_can_be_laid_out checks fns f few ok lt = by (cases_lt f 48)
   where
     long : length (routine_fns checks) ≡ 48 + length checks
-    long = all_long (λ h. code_fn (code_at h)) checks check_fn
+    long = many_routines checks
 
-    by : (f < 48) ⊎ (48 ≤ f) → IsGoodFn fns (slice_index_or (routine_fns checks) f no_code).items (slice_index_or (routine_fns checks) f no_code).calls
-    by (inl l) = subst (λ (x : CodeFn). IsGoodFn fns x.items x.calls) (sym (operation_among (λ h. code_fn (code_at h)) checks check_fn f l)) (operation_good fns f)
+    by : (f < 48) ⊎ (48 ≤ f) → Fine fns (slice_index_or (routine_fns checks) f no_code)
+    by (inl l) = subst (Fine fns) (sym (operation_among (λ h. code_fn (code_at h)) checks check_fn f l)) (operation_good fns f, refl)
     by (inr l) =
         let k = f - 48 in
         let back : 48 + k ≡ f = omega (arith, l) in
         let below : k < length checks = omega (arith, long, lt, back) in
         let check = get_or checks k no_check in
-        subst (λ (x : CodeFn). IsGoodFn fns x.items x.calls) (sym (ap (λ n. slice_index_or (routine_fns checks) n no_code) (sym back) ∙ check_among (λ h. code_fn (code_at h)) checks check_fn k no_check below))
-        (check_good fns check (ok k no_check below) (few k no_check below))
+        subst (Fine fns) (sym (ap (λ n. slice_index_or (routine_fns checks) n no_code) (sym back) ∙ check_among (λ h. code_fn (code_at h)) checks check_fn k no_check below))
+        (check_good fns check (ok k no_check below) (few k no_check below), refl)

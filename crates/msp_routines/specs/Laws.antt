@@ -1,5 +1,5 @@
 -- What holds of all routines: each stands at its place, and they can be laid out (own).
-use Rattle.std.specs.Prelude.{◌≡◌, ℕ, ◌<◌, ◌≤◌, List, length}
+use Rattle.std.specs.Prelude.{◌≡◌, ℕ, ◌<◌, ◌≤◌, List, [], length}
 use Rattle.nm_base.specs.declared.action.Action.{Action}
 use Rattle.msp_isa.specs.declared.code.CodeFn.{CodeFn}
 use Rattle.msp_isa.specs.Stands.{IsLaid, items_of}
@@ -23,7 +23,7 @@ RoutinesStand =
     IsUnmarked marks (laid.places f) (length (items_of (with_routines functions c.checks behind) f)) → even (entries f) ≡ entries f → entries f < 0x10000 →
     IsRoutine c image data_end marks h (entries f) (routine_bound c.checks h)
 
--- among however many functions
+-- among however many functions, and they call none
 abbrev pub RoutinesCanBeLaidOut : Type 0
 RoutinesCanBeLaidOut =
-    (checks : List Check) (fns f : ℕ) → HaveFewRuns checks → AreOfWords checks → f < length (routine_fns checks) → IsGoodFn fns (items_of (routine_fns checks) f) (calls_of (routine_fns checks) f)
+    (checks : List Check) (fns f : ℕ) → HaveFewRuns checks → AreOfWords checks → f < length (routine_fns checks) → IsGoodFn fns (items_of (routine_fns checks) f) (calls_of (routine_fns checks) f) × (calls_of (routine_fns checks) f ≡ [])
