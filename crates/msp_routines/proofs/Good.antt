@@ -26,7 +26,7 @@ use Rattle.msp_runtime.proofs.Running.{both}
 use Rattle.msp_checks.specs.Checks.{IsOfWords, check_code, check_fn, check_items, found, last_of, match_code, raise, run_code, runs_code, runs_of}
 use Rattle.msp_checks.specs.Written.{HasFewRuns}
 use Rattle.msp_checks.proofs.Laid.{fewer, formed}
-use Rattle.msp_routines.specs.Laws.{RoutinesCanBeLaidOut}
+use Rattle.msp_routines.specs.Laws.{RoutinesCallNothing, RoutinesCanBeLaidOut}
 use Rattle.msp_routines.specs.Routines.{routine_fns}
 use Rattle.msp_routines.proofs.Labels.{AllLead, code_counts, code_leads, counted, counted-append, inside_last, inside_one, lead-append, leads_at, stands_once}
 use Rattle.msp_routines.proofs.Places.{all_long, check_among, no_check, operation_among}
@@ -195,21 +195,23 @@ check_good fns check ok few =
 pub many_routines : (checks : List Check) → length (routine_fns checks) ≡ 48 + length checks
 many_routines checks = all_long (λ h. code_fn (code_at h)) checks check_fn
 
-abbrev Fine : (fns : ℕ) → CodeFn → Type 0
-Fine fns x = IsGoodFn fns x.items x.calls × (x.calls ≡ [])
+-- what holds of each routine of an operation and of a check holds of each routine
+module _ (P : CodeFn → Type 0) (checks : List Check) (f : ℕ) (lt : f < length (routine_fns checks)) (operation : (h : ℕ) → P (code_fn (code_at h))) (of_check : (k : ℕ) → k < length checks → P (check_fn (get_or checks k no_check))) where
+  routine_has : P (slice_index_or (routine_fns checks) f no_code)
+  routine_has = by (cases_lt f 48)
+    where
+      by : (f < 48) ⊎ (48 ≤ f) → P (slice_index_or (routine_fns checks) f no_code)
+      by (inl l) = subst P (sym (operation_among (λ h. code_fn (code_at h)) checks check_fn f l)) (operation f)
+      by (inr l) =
+          let many = many_routines checks in
+          let k = f - 48 in
+          let back : 48 + k ≡ f = omega (arith, l) in
+          let below : k < length checks = omega (arith, many, lt, back) in
+          subst P (sym (ap (λ n. slice_index_or (routine_fns checks) n no_code) (sym back) ∙ check_among (λ h. code_fn (code_at h)) checks check_fn k no_check below)) (of_check k below)
 
 pub routines_can_be_laid_out : RoutinesCanBeLaidOut
-routines_can_be_laid_out checks fns f few ok lt = by (cases_lt f 48)
-  where
-    long : length (routine_fns checks) ≡ 48 + length checks
-    long = many_routines checks
+routines_can_be_laid_out checks fns f few ok lt =
+    routine_has (λ (x : CodeFn). IsGoodFn fns x.items x.calls) checks f lt (operation_good fns) (λ k below. check_good fns (get_or checks k no_check) (ok k no_check below) (few k no_check below))
 
-    by : (f < 48) ⊎ (48 ≤ f) → Fine fns (slice_index_or (routine_fns checks) f no_code)
-    by (inl l) = subst (Fine fns) (sym (operation_among (λ h. code_fn (code_at h)) checks check_fn f l)) (operation_good fns f, refl)
-    by (inr l) =
-        let k = f - 48 in
-        let back : 48 + k ≡ f = omega (arith, l) in
-        let below : k < length checks = omega (arith, long, lt, back) in
-        let check = get_or checks k no_check in
-        subst (Fine fns) (sym (ap (λ n. slice_index_or (routine_fns checks) n no_code) (sym back) ∙ check_among (λ h. code_fn (code_at h)) checks check_fn k no_check below))
-        (check_good fns check (ok k no_check below) (few k no_check below), refl)
+pub routines_call_nothing : RoutinesCallNothing
+routines_call_nothing checks f lt = routine_has (λ (x : CodeFn). x.calls ≡ []) checks f lt (λ h. refl) (λ k below. refl)

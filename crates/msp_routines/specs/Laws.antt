@@ -23,7 +23,10 @@ RoutinesStand =
     IsUnmarked marks (laid.places f) (length (items_of (with_routines functions c.checks behind) f)) → even (entries f) ≡ entries f → entries f < 0x10000 →
     IsRoutine c image data_end marks h (entries f) (routine_bound c.checks h)
 
--- among however many functions, and they call none
+-- among however many functions
 abbrev pub RoutinesCanBeLaidOut : Type 0
 RoutinesCanBeLaidOut =
-    (checks : List Check) (fns f : ℕ) → HaveFewRuns checks → AreOfWords checks → f < length (routine_fns checks) → IsGoodFn fns (items_of (routine_fns checks) f) (calls_of (routine_fns checks) f) × (calls_of (routine_fns checks) f ≡ [])
+    (checks : List Check) (fns f : ℕ) → HaveFewRuns checks → AreOfWords checks → f < length (routine_fns checks) → IsGoodFn fns (items_of (routine_fns checks) f) (calls_of (routine_fns checks) f)
+
+abbrev pub RoutinesCallNothing : Type 0
+RoutinesCallNothing = (checks : List Check) (f : ℕ) → f < length (routine_fns checks) → calls_of (routine_fns checks) f ≡ []

@@ -4,5 +4,5 @@
 mod laws;
 mod routines;
 
-pub use laws::{routines_can_be_laid_out, routines_stand};
+pub use laws::{routines_call_nothing, routines_can_be_laid_out, routines_stand};
 pub use routines::routines_of;
