@@ -7,7 +7,7 @@ use Rattle.msp_layout.specs.Laid.{IsGoodCode}
 use Rattle.msp_layout.proofs.Onward.{eight}
 use Rattle.msp_checks.specs.Written.{AreOfWords, HaveFewRuns}
 use Rattle.msp_routines.specs.Routines.{routine_fns}
-use Rattle.msp_routines.proofs.Good.{many_routines, routines_can_be_laid_out}
+use Rattle.msp_routines.proofs.Good.{many_routines, routines_call_nothing, routines_can_be_laid_out}
 
 all_zero : (i : ℕ) → i < 8 → get_or (eight 0) i 0 ≡ 0
 all_zero zero lt = refl
@@ -26,8 +26,8 @@ no_callee calls g e name = absurd (let l = subst (λ (xs : List ℕ). name.0 < l
 good : (checks : List Check) (place : ℕ) → HaveFewRuns checks → AreOfWords checks → place < 48 + length checks → IsGoodCode (routine_fns checks) (eight 0) place
 good checks place few ok lt =
     let many = many_routines checks in record {
-      fns = λ f below. (routines_can_be_laid_out checks (length (routine_fns checks)) f few ok below).0;
-      no_cycle = (λ f. 0, λ f g below name. absurd (no_callee (calls_of (routine_fns checks) f) g (routines_can_be_laid_out checks 0 f few ok below).1 name));
+      fns = λ f below. routines_can_be_laid_out checks (length (routine_fns checks)) f few ok below;
+      no_cycle = (λ f. 0, λ f g below name. absurd (no_callee (calls_of (routine_fns checks) f) g (routines_call_nothing checks f below) name));
       line_fns = λ f name. let z = all_zero name.0 name.1 in let e = name.2 in omega (arith, many, z, e);
       reset_fn = omega (arith, many, lt);
     }

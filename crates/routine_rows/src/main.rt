@@ -1,5 +1,4 @@
-//! Calls every routine on the model of the processor, and writes for each how many values were tried and how many results were not
-//! those of the core language's arithmetic.
+//! Calls every routine on the model of the processor, beside the arithmetic of the core language, and writes a line for each.
 #![tactic(auto)]
 
 mod checks;
