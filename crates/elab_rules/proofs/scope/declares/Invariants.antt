@@ -1,7 +1,0 @@
-use Rattle.std.proofs.Common.{◌≡◌, map, drop}
-use Rattle.elab_rules.specs.Scope.{declares}
-use Rattle.elab_rules.specs.View.{entry_of}
-use Rattle.elab_rules.proofs.scope.declares.Given as goal
-
-abbrev pub invariant-loop-entry : goal.invariant-loop-entry
-invariant-loop-entry l = declares (map entry_of (drop l.entry-index l.names)) l.name ≡ declares (map entry_of l.names) l.name

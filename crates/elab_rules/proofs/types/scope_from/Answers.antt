@@ -1,6 +1,0 @@
-use Rattle.elab_rules.specs.View.{entry_of}
-use Rattle.elab_rules.proofs.Scopes.{scope-view}
-use Rattle.elab_rules.proofs.types.scope_from.Goals as goal
-
-pub returns-in-Some : goal.returns-in-Some
-returns-in-Some c = scope-view entry_of c.args.first c.args.names.now c.in-Some.scope.now (c.in-Some.ensures.lookup.0.2)

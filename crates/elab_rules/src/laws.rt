@@ -1,8 +1,0 @@
-//! Laws of conversions.
-
-ghost use Rattle.elab_rules.specs.Laws.{ConversionsWrap};
-
-/// A conversion keeps a value's number, wrapped to the new type.
-pub fn conversions_wrap()
-    ensures { ConversionsWrap }
-{}
