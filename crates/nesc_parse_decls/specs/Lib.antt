@@ -1,0 +1,2 @@
+pub mod Inits
+pub mod Parts
