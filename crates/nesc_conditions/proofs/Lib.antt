@@ -1,3 +1,4 @@
 pub mod Digits
 pub mod Resolving
 pub mod Steps
+pub mod Macros

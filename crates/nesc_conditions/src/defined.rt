@@ -3,7 +3,7 @@
 ghost use Rattle.std.specs.Prelude.{◌≡◌, IfOk};
 ghost use Rattle.nesc_conditions.specs.Resolved.{IsResolved, is_defined, names_macro, next, plain, silent, told};
 
-use nesc_macros::{Macro, is_sign, is_word};
+use nesc_macros::{Macros, is_sign, is_word};
 use nm_base::{Kind, Name, NoMemory, Pos, Token};
 use std::alloc::Global;
 
@@ -26,7 +26,7 @@ pub(crate) struct Step {
 /// Puts 1 or 0 in the place of each `defined X` and `defined ( X )`; None where no word follows.
 pub fn resolve_defined(
     alloc: Global,
-    macros: &[Macro],
+    macros: &Macros,
     tokens: &[Token],
 ) -> Result<Option<Vec<Token>>, NoMemory>
     ensures { IfOk result (λ r. IsResolved macros.now tokens.now r) }
@@ -48,12 +48,7 @@ pub fn resolve_defined(
     }
 }
 
-fn next(
-    alloc: Global,
-    macros: &[Macro],
-    seen: Seen,
-    token: &Token,
-) -> Result<Option<Step>, NoMemory>
+fn next(alloc: Global, macros: &Macros, seen: Seen, token: &Token) -> Result<Option<Step>, NoMemory>
     ensures { IfOk result (λ n. n ≡ next macros.now seen token.now) }
 {
     match seen {
@@ -108,10 +103,10 @@ fn is_defined(token: &Token) -> bool
     is_word(token) && token.text.as_bytes() == b"defined".as_slice()
 }
 
-fn names_macro(macros: &[Macro], token: &Token) -> bool
+fn names_macro(macros: &Macros, token: &Token) -> bool
     ensures { result ≡ names_macro macros.now token.now }
 {
-    macros.iter().any(|candidate| candidate.name == token.text)
+    macros.get(&token.text).is_some()
 }
 
 // The number in the place of a `defined`.

@@ -9,8 +9,6 @@ pub mod literals;
 mod operator;
 mod rows;
 mod spelled;
-#[cfg(test)]
-mod tests;
 
 pub use condition::value_of;
 pub use defined::resolve_defined;

@@ -2,3 +2,5 @@ pub mod Arguments
 pub mod Turns
 pub mod Naming
 pub mod Replacing
+pub mod Tabled
+pub mod Linked

@@ -11,6 +11,7 @@ use Rattle.nesc_macros.specs.declared.definition.Macro.{Macro}
 use Rattle.nesc_macros.specs.Invocation.{Name, PreprocessingToken, Passes, ObjectLike, FunctionLike, Misused, use_of, Actuals}
 use Rattle.nesc_macros.specs.Expansion.{Answer, ExpandsTo, FailsTo, Settles, all_of, and_then, by_use, expanded, gives, go_on, intersection, max_tokens, object_replacement, placed, put_where, tokens_of, too_many, unhidden}
 use Rattle.nesc_macros.specs.Code.{UnlessNoMemory}
+use Rattle.nesc_macros.specs.Numbers.{Scope, macros_at}
 use Rattle.nesc_macros.specs.Frames.{EndsIn, LeadsTo, ResumesTo, Suspended, answered, behind, completed, replaced, resumed, value_behind, with_argument}
 
 abbrev Tokens : Type 0
@@ -211,8 +212,8 @@ pub none_left : {A : Type 0} (old new : List A) → old ≡ new → new ≡ drop
 none_left [] new same rest = refl
 none_left (x ∷ old) new same rest = absurd (let len : length (x ∷ old) ≡ length old = ap length (same ∙ rest) in omega (arith, len))
 
-pub too_long_unless : (e : Fault) (count now : ℕ) (outer : List Macro → List Suspended) (f : List Macro → Suspended) → e ≡ too_many → now ≡ count → ((macros : List Macro) → (f macros).waiting ≡ []) → ((macros : List Macro) → max_tokens < count + length (replaced (f macros) (f macros).expanded)) → UnlessNoMemory e ((macros : List Macro) → ResumesTo macros count (f macros) (outer macros) (refused_with e now))
-too_long_unless e count now outer f is same waits past = rw (is, same) (λ macros. function_is_too_long macros count (outer macros) (f macros) (waits macros) (past macros))
+pub too_long_unless : (e : Fault) (count now : ℕ) (outer : Scope → List Suspended) (f : Scope → Suspended) → e ≡ too_many → now ≡ count → ((scope : Scope) → (f scope).waiting ≡ []) → ((scope : Scope) → max_tokens < count + length (replaced (f scope) (f scope).expanded)) → UnlessNoMemory e ((scope : Scope) → ResumesTo (macros_at scope) count (f scope) (outer scope) (refused_with e now))
+too_long_unless e count now outer f is same waits past = rw (is, same) (λ scope. function_is_too_long (macros_at scope) count (outer scope) (f scope) (waits scope) (past scope))
 
 pub ends_elsewhere : (macros : List Macro) (count : ℕ) (frames frames' : List Suspended) (out out' pending pending' : Tokens) (whole : Answer Tokens) → frames ≡ frames' → out ≡ out' → pending ≡ pending' → EndsIn macros count frames out pending whole → EndsIn macros count frames' out' pending' whole
 ends_elsewhere macros count frames frames' out out' pending pending' whole frames-is out-is pending-is ends =
@@ -228,8 +229,8 @@ unless_weaker fault.ReadFault f p = f p
 unless_weaker (fault.Limit l) f p = f p
 unless_weaker (fault.TooLarge r n) f p = f p
 
-pub object_too_long_unless : (macros : List Macro) (e : Fault) (count now more : ℕ) (frames : List Suspended) (out rest : Tokens) (t : PreprocessingToken) (m : Macro) → use_of macros t rest ≡ ObjectLike m → e ≡ too_many → now ≡ count → more ≡ length (object_replacement m t) → max_tokens < count + more → UnlessNoMemory e (EndsIn macros count frames out (t ∷ rest) (refused_with e now))
-object_too_long_unless macros e count now more frames out rest t m used is same more-is past = rw (is, same) (object_is_too_long macros count more frames out rest t m used more-is past)
+pub unless_too_many : (P : Fault → ℕ → Type 0) (e : Fault) (count now : ℕ) → e ≡ too_many → now ≡ count → P too_many count → UnlessNoMemory e (P e now)
+unless_too_many P e count now is same p = rw (is, same) p
 
 pub object_length : (m : Macro) (t : PreprocessingToken) → length (object_replacement m t) ≡ length m.replacement
 object_length m t = length-map m.replacement (placed t.token.pos (m.name ∷ t.hide_set))

@@ -6,7 +6,7 @@ use Rattle.nesc_macros.specs.declared.definition.Macro.{Macro}
 use Rattle.nesc_macros.specs.declared.definition.NumberedToken.{NumberedToken}
 use Rattle.nesc_macros.specs.declared.frames.Frame.{Frame}
 use Rattle.nesc_macros.specs.Invocation.{Name, PreprocessingToken}
-use Rattle.nesc_macros.specs.Numbers.{all_shown, names_of}
+use Rattle.nesc_macros.specs.Numbers.{Scope, all_shown, names_of}
 use Rattle.nesc_macros.specs.Expansion.{Answer, Settles, all_of, and_then, expanded, go_on, max_tokens, put, substituted}
 use Rattle.nesc_macros.specs.Code.{weight_of_lists}
 
@@ -22,20 +22,20 @@ pub record Suspended : Type 0 where
   pub out : List PreprocessingToken
   pub pending : List PreprocessingToken
 
-abbrev pub suspended : List Macro → Frame → Suspended
-suspended macros f = record {
+abbrev pub suspended : Scope → Frame → Suspended
+suspended scope f = record {
   pos = f.pos;
-  hide_set = names_of macros f.hide_set;
+  hide_set = names_of scope f.hide_set;
   definition = f.definition.now;
   parameters = f.parameters.now;
-  expanded = map (all_shown macros) f.expanded.items;
-  waiting = map (all_shown macros) f.waiting.items;
-  out = all_shown macros f.outer.out.items;
-  pending = all_shown macros f.outer.pending.items;
+  expanded = map (all_shown scope) f.expanded.items;
+  waiting = map (all_shown scope) f.waiting.items;
+  out = all_shown scope f.outer.out.items;
+  pending = all_shown scope f.outer.pending.items;
 }
 
-abbrev pub all_suspended : List Macro → List Frame → List Suspended
-all_suspended macros = map (suspended macros)
+abbrev pub all_suspended : Scope → List Frame → List Suspended
+all_suspended scope = map (suspended scope)
 
 -- one more argument is expanded
 abbrev pub with_argument : Suspended → List PreprocessingToken → Suspended

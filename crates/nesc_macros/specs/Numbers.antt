@@ -1,31 +1,50 @@
 -- Hide sets by the numbers of macros, as the code keeps them, and the names that they stand for (own).
-use Rattle.std.specs.Prelude.{ℕ, Bool, not, List, ◌++◌, nat_eq, cond, filter, map, Option, Some, None, slice_get}
-use Rattle.std.specs.List.{filter_map, list_any, position_or_len}
+use Rattle.std.specs.Prelude.{ℕ, Bool, not, List, [], ◌++◌, nat_eq, filter, map, Option}
+use Rattle.std.specs.List.{filter_map, list_any}
 use Rattle.nm_base.specs.declared.token.Token.{Token}
 use Rattle.nesc_macros.specs.declared.definition.Macro.{Macro}
 use Rattle.nesc_macros.specs.declared.definition.NumberedToken.{NumberedToken}
-use Rattle.nesc_macros.specs.Invocation.{Name, PreprocessingToken, same_name}
+use Rattle.nesc_macros.specs.declared.table.Table.{Table}
+use Rattle.nesc_macros.specs.declared.hide_sets.HideSet.{HideSet}
+use Rattle.nesc_macros.specs.declared.hide_sets.HideSets.{HideSets}
+use Rattle.nesc_macros.specs.declared.hide_sets.Link.{Link}
+use Rattle.nesc_macros.specs.Sets.{Extends, numbers_in}
+use Rattle.nesc_macros.specs.Invocation.{Name, PreprocessingToken}
+use Rattle.nesc_macros.specs.Tables.{Defined, defined_in, macros_of, name_in}
 
--- the number of the macro of this name: its place in the list
-abbrev pub number_of : List Macro → Name → ℕ
-number_of macros name = position_or_len (λ (m : Macro). same_name m.name name) macros
+-- what numbers stand for
+pub record Scope : Type 0 where
+  pub macros : Defined
+  pub links : List Link
 
-abbrev pub name_of : List Macro → ℕ → Option Macro → Option Name
-name_of macros number None = None
-name_of macros number (Some m) = cond (nat_eq (number_of macros m.name) number) (Some m.name) None
+abbrev pub no_scope : Scope
+no_scope = record { macros = record { definitions = []; numbers = [] }; links = [] }
 
--- the name of the macro of this number
-unfoldable pub name_at : List Macro → ℕ → Option Name
-name_at macros number = name_of macros number (slice_get macros number)
+abbrev pub scope_of : Table → List Link → Scope
+scope_of table links = record { macros = defined_in table; links = links }
 
-abbrev pub names_of : List Macro → List ℕ → List Name
-names_of macros = filter_map (name_at macros)
+-- the sets that the table has by now are those of the scope
+abbrev pub IsIn : HideSets → Scope → Type 0
+IsIn sets scope = Extends sets.links.items scope.links
 
-abbrev pub shown : List Macro → NumberedToken → PreprocessingToken
-shown macros t = record { token = t.token; hide_set = names_of macros t.hide_set }
+abbrev pub macros_at : Scope → List Macro
+macros_at scope = macros_of scope.macros
 
-abbrev pub all_shown : List Macro → List NumberedToken → List PreprocessingToken
-all_shown macros = map (shown macros)
+abbrev pub name_at : Scope → ℕ → Option Name
+name_at scope = name_in scope.macros
+
+-- the names of numbers, and of a set
+abbrev pub named : Scope → List ℕ → List Name
+named scope = filter_map (name_at scope)
+
+abbrev pub names_of : Scope → HideSet → List Name
+names_of scope set = named scope (numbers_in scope.links set)
+
+abbrev pub shown : Scope → NumberedToken → PreprocessingToken
+shown scope t = record { token = t.token; hide_set = names_of scope t.hide_set }
+
+abbrev pub all_shown : Scope → List NumberedToken → List PreprocessingToken
+all_shown scope = map (shown scope)
 
 abbrev pub tokens_in : List NumberedToken → List Token
 tokens_in = map (λ (t : NumberedToken). t.token)

@@ -1,6 +1,6 @@
 //! Macros, and tokens with their hide sets.
 
-use crate::hide_set::HideSet;
+use crate::hide_sets::HideSet;
 use nm_base::{List, Name, Token};
 
 /// A token and the numbers of the macros that are not replaced in it any more.
@@ -16,4 +16,11 @@ pub struct Macro {
     pub name: Name,
     pub parameters: Option<List<Name>>,
     pub replacement: List<Token>,
+}
+
+/// A macro with its number.
+#[derive(Clone, Copy)]
+pub struct NumberedMacro<'m> {
+    pub number: u32,
+    pub definition: &'m Macro,
 }

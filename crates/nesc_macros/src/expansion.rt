@@ -1,28 +1,29 @@
 //! The expansion of a list of tokens.
 
 ghost use Rattle.std.specs.Prelude.{◌≡◌, ◌≤◌, IfOk, IfErr, Ok};
-ghost use Rattle.std.specs.Prelude.{List as ListOf};
-ghost use Rattle.nesc_macros.specs.declared.definition.Macro.{Macro as MacroOf};
-ghost use Rattle.nesc_macros.specs.Numbers.{all_shown, tokens_in};
+ghost use Rattle.nesc_macros.specs.Numbers.{Scope, all_shown, tokens_in};
+ghost use Rattle.nesc_macros.specs.Tables.{macros_in};
 ghost use Rattle.nesc_macros.specs.Expansion.{ExpandsTo, FailsTo, IsExpansionFault, unhidden};
 
-use crate::definition::{Macro, NumberedToken};
+use crate::definition::NumberedToken;
 use crate::frames::{Level, expand_token, resume};
-use crate::hide_set::HideSet;
+use crate::hide_sets::{HideSet, HideSets};
+use crate::macros::Macros;
+use crate::table::Table;
 use nm_base::{Fault, List, NoMemory, Token};
 use std::alloc::Global;
 use std::collections::VecDeque;
 
 // The tokens of a text, which hide nothing.
 fn unhidden(alloc: Global, tokens: Vec<Token>) -> Result<VecDeque<NumberedToken>, NoMemory>
-    ensures { IfOk result (λ all. (macros : ListOf MacroOf) → all_shown macros all.items ≡ unhidden tokens.items) }
+    ensures { IfOk result (λ all. (scope : Scope) → all_shown scope all.items ≡ unhidden tokens.items) }
 {
-    let nothing = HideSet::empty(alloc)?;
+    let nothing = HideSet::empty();
     let mut all = VecDeque::new(alloc);
     for token in tokens {
         all.push_back(NumberedToken {
             token,
-            hide_set: nothing.clone()?,
+            hide_set: nothing,
         })?;
     }
     Ok(all)
@@ -34,12 +35,44 @@ fn tokens_in(alloc: Global, expanded: Vec<NumberedToken>) -> Result<Vec<Token>, 
     Ok(expanded.into_iter().map(|part| part.token).collect(alloc)?)
 }
 
+// The expansion by a table of macros.
+fn expand_by(
+    alloc: Global,
+    table: &Table,
+    count: &mut u32,
+    tokens: Vec<Token>,
+) -> Result<Vec<Token>, Fault>
+    requires within { count.old ≤ 1000000 }
+    ensures within { count.new ≤ 1000000 }
+    ensures grows { count.old ≤ count.new }
+    ensures expanded { IfOk result (λ v. ExpandsTo (macros_in table.now) count.old tokens.items (record { value = Ok v.items; count = count.new })) }
+    ensures refused { IfErr result (λ e. FailsTo (macros_in table.now) count.old tokens.items e count.new) }
+    ensures kinds { IfErr result IsExpansionFault }
+{
+    let mut sets = HideSets::new(alloc);
+    let mut frames = VecDeque::new(alloc);
+    let mut level = Level {
+        out: Vec::new(alloc),
+        pending: unhidden(alloc, tokens)?,
+    };
+    loop {
+        if let Some(token) = level.pending.pop_front() {
+            level = expand_token(alloc, table, &mut sets, count, &mut frames, level, token)?;
+        } else if let Some(mut frame) = frames.pop_front() {
+            frame.expanded.push(List::new(level.out))?;
+            level = resume(alloc, &mut sets, count, &mut frames, frame)?;
+        } else {
+            return Ok(tokens_in(alloc, level.out)?);
+        }
+    }
+}
+
 /// Expands a list of tokens. `count` is the number of tokens that were put before the scan; the replacements add theirs, also
 /// where the call is refused. Refused are a use of a macro that does not fit it (E04, at its name) and one token more than
 /// `MAX_TOKENS`.
 pub fn expand_list(
     alloc: Global,
-    macros: &[Macro],
+    macros: &Macros,
     count: &mut u32,
     tokens: Vec<Token>,
 ) -> Result<Vec<Token>, Fault>
@@ -50,19 +83,5 @@ pub fn expand_list(
     ensures refused { IfErr result (λ e. FailsTo macros.now count.old tokens.items e count.new) }
     ensures kinds { IfErr result IsExpansionFault }
 {
-    let mut frames = VecDeque::new(alloc);
-    let mut level = Level {
-        out: Vec::new(alloc),
-        pending: unhidden(alloc, tokens)?,
-    };
-    loop {
-        if let Some(token) = level.pending.pop_front() {
-            level = expand_token(alloc, macros, count, &mut frames, level, token)?;
-        } else if let Some(mut frame) = frames.pop_front() {
-            frame.expanded.push(List::new(level.out))?;
-            level = resume(alloc, count, &mut frames, frame)?;
-        } else {
-            return Ok(tokens_in(alloc, level.out)?);
-        }
-    }
+    expand_by(alloc, macros.table(), count, tokens)
 }

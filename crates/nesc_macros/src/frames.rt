@@ -2,17 +2,20 @@
 
 ghost use Rattle.std.specs.Prelude.{◌≡◌, ◌+◌, ◌<◌, ◌≤◌, ◌++◌, ◌∷◌, length, IfOk, IfErr, OnOk, Err, []};
 ghost use Rattle.std.specs.Prelude.{List as ListOf};
-ghost use Rattle.nesc_macros.specs.declared.definition.Macro.{Macro as MacroOf};
 ghost use Rattle.nesc_macros.specs.Invocation.{PreprocessingToken};
-ghost use Rattle.nesc_macros.specs.Numbers.{all_shown, common, shown};
+ghost use Rattle.nesc_macros.specs.Numbers.{IsIn, Scope, all_shown, common, macros_at, scope_of, shown};
+ghost use Rattle.nesc_macros.specs.Sets.{Extends, numbers_in};
+ghost use Rattle.nesc_macros.specs.Tables.{macros_in};
+ghost use Rattle.nesc_macros.specs.declared.hide_sets.Link.{Link as LinkOf};
 ghost use Rattle.nesc_macros.specs.Expansion.{Answer, IsExpansionFault, max_tokens, too_many};
 ghost use Rattle.nesc_macros.specs.Code.{UnlessNoMemory};
 ghost use Rattle.nesc_macros.specs.Frames.{suspended, all_suspended, EndsIn, ResumesTo, weight};
 
 use crate::definition::{Macro, NumberedToken};
-use crate::hide_set::HideSet;
+use crate::hide_sets::{HideSet, HideSets};
 use crate::invocation::{Use, use_at};
 use crate::replacement::{object_replacement, replacement_len, substituted};
+use crate::table::Table;
 use nm_base::{Fault, Limit, List, Name, NoMemory, Pos, Refusal, Which};
 use std::alloc::Global;
 use std::collections::VecDeque;
@@ -73,6 +76,7 @@ fn put_front(
 /// Goes on with a use of which no argument is being expanded: with its next argument, or with what replaces it.
 pub fn resume<'m>(
     alloc: Global,
+    sets: &mut HideSets,
     count: &mut u32,
     frames: &mut VecDeque<Frame<'m>>,
     mut frame: Frame<'m>,
@@ -80,11 +84,12 @@ pub fn resume<'m>(
     requires { count.old ≤ 1000000 }
     ensures within { count.new ≤ 1000000 }
     ensures grows { count.old ≤ count.new }
-    ensures leads { IfOk result (λ level. (macros : ListOf MacroOf) (whole : Answer (ListOf PreprocessingToken))
-        → EndsIn macros count.new (all_suspended macros frames.new.items) (all_shown macros level.out.items) (all_shown macros level.pending.items) whole
-        → ResumesTo macros count.old (suspended macros frame.entry) (all_suspended macros frames.old.items) whole) }
-    ensures refused { IfErr result (λ e. UnlessNoMemory e ((macros : ListOf MacroOf)
-        → ResumesTo macros count.old (suspended macros frame.entry) (all_suspended macros frames.old.items) (record { value = Err e; count = count.new }))) }
+    ensures extends { Extends sets.old.links.items sets.new.links.items }
+    ensures leads { IfOk result (λ level. (scope : Scope) (whole : Answer (ListOf PreprocessingToken)) → IsIn sets.new scope
+        → EndsIn (macros_at scope) count.new (all_suspended scope frames.new.items) (all_shown scope level.out.items) (all_shown scope level.pending.items) whole
+        → ResumesTo (macros_at scope) count.old (suspended scope frame.entry) (all_suspended scope frames.old.items) whole) }
+    ensures refused { IfErr result (λ e. UnlessNoMemory e ((scope : Scope)
+        → ResumesTo (macros_at scope) count.old (suspended scope frame.entry) (all_suspended scope frames.old.items) (record { value = Err e; count = count.new }))) }
     ensures kinds { IfErr result IsExpansionFault }
     ensures lighter { IfOk result (λ level. weight count.new frames.new.items level.pending.items
         < weight count.old (frame.entry ∷ frames.old.items) []) }
@@ -105,6 +110,7 @@ pub fn resume<'m>(
     let replacement = frame.definition.replacement.as_slice();
     let list = substituted(
         alloc,
+        sets,
         pos,
         &frame.hide_set,
         parameters,
@@ -119,7 +125,8 @@ pub fn resume<'m>(
 /// Expands the token at the front of a list.
 pub fn expand_token<'m>(
     alloc: Global,
-    macros: &'m [Macro],
+    table: &'m Table,
+    sets: &mut HideSets,
     count: &mut u32,
     frames: &mut VecDeque<Frame<'m>>,
     mut level: Level,
@@ -128,37 +135,38 @@ pub fn expand_token<'m>(
     requires { count.old ≤ 1000000 }
     ensures within { count.new ≤ 1000000 }
     ensures grows { count.old ≤ count.new }
-    ensures leads { IfOk result (λ next. (whole : Answer (ListOf PreprocessingToken))
-        → EndsIn macros.now count.new (all_suspended macros.now frames.new.items) (all_shown macros.now next.out.items) (all_shown macros.now next.pending.items) whole
-        → EndsIn macros.now count.old (all_suspended macros.now frames.old.items) (all_shown macros.now level.out.items) (shown macros.now token ∷ all_shown macros.now level.pending.items) whole) }
-    ensures refused { IfErr result (λ e. UnlessNoMemory e
-        (EndsIn macros.now count.old (all_suspended macros.now frames.old.items) (all_shown macros.now level.out.items) (shown macros.now token ∷ all_shown macros.now level.pending.items) (record { value = Err e; count = count.new }))) }
+    ensures extends { Extends sets.old.links.items sets.new.links.items }
+    ensures leads { IfOk result (λ next. (links : ListOf LinkOf) (whole : Answer (ListOf PreprocessingToken)) → IsIn sets.new (scope_of table.now links)
+        → EndsIn (macros_in table.now) count.new (all_suspended (scope_of table.now links) frames.new.items) (all_shown (scope_of table.now links) next.out.items) (all_shown (scope_of table.now links) next.pending.items) whole
+        → EndsIn (macros_in table.now) count.old (all_suspended (scope_of table.now links) frames.old.items) (all_shown (scope_of table.now links) level.out.items) (shown (scope_of table.now links) token ∷ all_shown (scope_of table.now links) level.pending.items) whole) }
+    ensures refused { IfErr result (λ e. UnlessNoMemory e ((links : ListOf LinkOf) → IsIn sets.new (scope_of table.now links)
+        → EndsIn (macros_in table.now) count.old (all_suspended (scope_of table.now links) frames.old.items) (all_shown (scope_of table.now links) level.out.items) (shown (scope_of table.now links) token ∷ all_shown (scope_of table.now links) level.pending.items) (record { value = Err e; count = count.new }))) }
     ensures kinds { IfErr result IsExpansionFault }
     ensures lighter { IfOk result (λ next. weight count.new frames.new.items next.pending.items
         < weight count.old frames.old.items (token ∷ level.pending.items)) }
 {
-    match use_at(alloc, macros, &token, &mut level.pending)? {
+    match use_at(alloc, table, sets, &token, &mut level.pending)? {
         Use::Passes => {
             level.out.push(token)?;
             Ok(level)
         }
         Use::ObjectLike(found) => {
             count_more(count, found.definition.replacement.as_slice().len())?;
-            let list = object_replacement(alloc, found, &token)?;
+            let list = object_replacement(alloc, sets, found, &token)?;
             put_front(&mut level.pending, list)?;
             Ok(level)
         }
         Use::FunctionLike(found, parameters, arguments) => {
             let frame = Frame {
                 pos: token.token.pos,
-                hide_set: replacement_hide_set(alloc, found.number, &token, &arguments.close)?,
+                hide_set: replacement_hide_set(sets, found.number, &token, &arguments.close)?,
                 definition: found.definition,
                 parameters,
                 expanded: Vec::new(alloc),
                 waiting: arguments.lists,
                 outer: level,
             };
-            resume(alloc, count, frames, frame)
+            resume(alloc, sets, count, frames, frame)
         }
         Use::Misused => Err(Fault::Refused(Refusal::MacroArguments(token.token.pos))),
     }
@@ -166,13 +174,14 @@ pub fn expand_token<'m>(
 
 // The hide set of what replaces a use of a function-like macro, from its name and the parenthesis at its end.
 fn replacement_hide_set(
-    alloc: Global,
-    number: usize,
+    sets: &mut HideSets,
+    number: u32,
     token: &NumberedToken,
     close: &NumberedToken,
 ) -> Result<HideSet, NoMemory>
-    ensures { IfOk result (λ s. s ≡ number ∷ common token.now.hide_set close.now.hide_set) }
+    ensures grows { Extends sets.old.links.items sets.new.links.items }
+    ensures set { IfOk result (λ s. (links : ListOf LinkOf) → Extends sets.new.links.items links → numbers_in links s ≡ number ∷ common (numbers_in links token.now.hide_set) (numbers_in links close.now.hide_set)) }
 {
-    let both = token.hide_set.intersection(alloc, &close.hide_set)?;
-    both.with(alloc, number)
+    let both = sets.intersection(&token.hide_set, &close.hide_set)?;
+    sets.with(&both, number)
 }

@@ -1,14 +1,15 @@
 //! What a token is used as, and the arguments of a use.
 
 ghost use Rattle.std.specs.Prelude.{◌≡◌, map, List as ListOf, IfOk};
-ghost use Rattle.std.specs.List.{position};
-ghost use Rattle.nesc_macros.specs.Invocation.{fits, same_name, PreprocessingToken};
-ghost use Rattle.nesc_macros.specs.Numbers.{all_shown, shown};
-ghost use Rattle.nesc_macros.specs.Code.{begins_arguments, IsCandidate, IsLess, IsNumbered, IsTaken, IsUsedAs, StepsBy};
-ghost use Rattle.nesc_macros.specs.declared.definition.Macro.{Macro as MacroOf};
+ghost use Rattle.nesc_macros.specs.Invocation.{fits, PreprocessingToken};
+ghost use Rattle.nesc_macros.specs.Numbers.{IsIn, Scope, all_shown, scope_of, shown};
+ghost use Rattle.nesc_macros.specs.declared.hide_sets.Link.{Link as LinkOf};
+ghost use Rattle.nesc_macros.specs.Code.{begins_arguments, IsCandidate, IsLess, IsTaken, IsUsedAs, StepsBy};
 
-use crate::definition::{Macro, NumberedToken};
+use crate::definition::{NumberedMacro, NumberedToken};
+use crate::hide_sets::HideSets;
 use crate::names::{is_sign, is_word};
+use crate::table::Table;
 use nm_base::{List, Name, NoMemory};
 use std::alloc::Global;
 use std::collections::VecDeque;
@@ -18,13 +19,6 @@ use std::collections::VecDeque;
 pub struct Arguments {
     pub lists: VecDeque<List<NumberedToken>>,
     pub close: NumberedToken,
-}
-
-/// A macro with its number.
-#[derive(Clone, Copy)]
-pub struct NumberedMacro<'m> {
-    pub number: usize,
-    pub definition: &'m Macro,
 }
 
 /// What a token is used as.
@@ -47,8 +41,8 @@ enum Mark {
 
 // What the token is, behind so many open parentheses.
 fn mark_of(token: &NumberedToken, depth: usize) -> Mark
-    ensures { (macros : ListOf MacroOf) (now : ListOf PreprocessingToken) (before : ListOf (ListOf PreprocessingToken)) (ts : ListOf PreprocessingToken)
-        → StepsBy result depth (shown macros token.now) now before ts }
+    ensures { (scope : Scope) (now : ListOf PreprocessingToken) (before : ListOf (ListOf PreprocessingToken)) (ts : ListOf PreprocessingToken)
+        → StepsBy result depth (shown scope token.now) now before ts }
 {
     if is_sign(b"(", &token.token) {
         Mark::Opens
@@ -76,7 +70,7 @@ fn take_arguments(
     alloc: Global,
     pending: &mut VecDeque<NumberedToken>,
 ) -> Result<Option<Arguments>, NoMemory>
-    ensures taken { IfOk result (λ found. (macros : ListOf MacroOf) → IsTaken macros pending.old.items found pending.new.items) }
+    ensures taken { IfOk result (λ found. (scope : Scope) → IsTaken scope pending.old.items found pending.new.items) }
     ensures less { IfOk result (λ found. IsLess pending.old.items found pending.new.items) }
 {
     let mut lists = VecDeque::new(alloc);
@@ -112,7 +106,7 @@ fn take_arguments(
 
 // Whether there is one argument for each parameter; an empty one also fits a macro that has none.
 fn fits(parameters: &[Name], lists: &VecDeque<List<NumberedToken>>) -> bool
-    ensures { (macros : ListOf MacroOf) → result ≡ fits parameters.now (map (all_shown macros) lists.now.items) }
+    ensures { (scope : Scope) → result ≡ fits parameters.now (map (all_shown scope) lists.now.items) }
 {
     parameters.len() == lists.len()
         || parameters.is_empty()
@@ -120,46 +114,37 @@ fn fits(parameters: &[Name], lists: &VecDeque<List<NumberedToken>>) -> bool
             && lists.iter().any(|list| list.as_slice().is_empty())
 }
 
-// The number of the macro of this name: its place.
-fn number_of(macros: &[Macro], name: &Name) -> Option<usize>
-    ensures { result ≡ position (λ m. same_name m.name name.now) macros.now }
-{
-    macros.iter().position(|m| &m.name == name)
-}
-
-// The macro of this name, with its number.
-fn numbered<'m>(macros: &'m [Macro], name: &Name) -> Option<NumberedMacro<'m>>
-    ensures { IsNumbered macros.now name.now result }
-{
-    let number = number_of(macros, name)?;
-    let definition = macros.get(number)?;
-    Some(NumberedMacro { number, definition })
-}
-
 // The macro that the token may be used as: that of its name, where it is not hidden in it.
-fn candidate<'m>(macros: &'m [Macro], token: &NumberedToken) -> Option<NumberedMacro<'m>>
-    ensures { IsCandidate macros.now token.now result }
+fn candidate<'m>(
+    table: &'m Table,
+    sets: &HideSets,
+    token: &NumberedToken,
+) -> Result<Option<NumberedMacro<'m>>, NoMemory>
+    ensures { IfOk result (λ found. (links : ListOf LinkOf) → IsIn sets.now (scope_of table.now links) → IsCandidate (scope_of table.now links) token.now found) }
 {
     if !is_word(&token.token) {
-        return None;
+        return Ok(None);
     }
-    let found = numbered(macros, &token.token.text)?;
-    if token.hide_set.contains(found.number) {
-        return None;
+    let Some(found) = table.find(&token.token.text) else {
+        return Ok(None);
+    };
+    if sets.contains(&token.hide_set, found.number)? {
+        return Ok(None);
     }
-    Some(found)
+    Ok(Some(found))
 }
 
 /// What the token before `pending` is used as. The arguments of a use are taken from there.
 pub fn use_at<'m>(
     alloc: Global,
-    macros: &'m [Macro],
+    table: &'m Table,
+    sets: &HideSets,
     token: &NumberedToken,
     pending: &mut VecDeque<NumberedToken>,
 ) -> Result<Use<'m>, NoMemory>
-    ensures { IfOk result (λ found. IsUsedAs macros.now token.now pending.old.items found pending.new.items) }
+    ensures { IfOk result (λ found. (links : ListOf LinkOf) → IsIn sets.now (scope_of table.now links) → IsUsedAs (scope_of table.now links) token.now pending.old.items found pending.new.items) }
 {
-    let Some(found) = candidate(macros, token) else {
+    let Some(found) = candidate(table, sets, token)? else {
         return Ok(Use::Passes);
     };
     let Some(parameters) = &found.definition.parameters else {

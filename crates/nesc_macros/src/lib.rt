@@ -4,16 +4,17 @@
 mod definition;
 mod expansion;
 mod frames;
-mod hide_set;
+mod hide_sets;
 mod invocation;
+mod macros;
 mod names;
 mod replacement;
 mod rows;
-#[cfg(test)]
-mod tests;
+mod table;
 
 pub use definition::Macro;
 pub use expansion::expand_list;
 pub use frames::MAX_TOKENS;
-pub use names::{is_among, is_sign, is_word, macro_of};
+pub use macros::Macros;
+pub use names::{is_among, is_sign, is_word};
 pub use rows::worked_rows;

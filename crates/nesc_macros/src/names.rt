@@ -1,9 +1,8 @@
-//! Names, and the macro that a name stands for.
+//! Names, words and signs.
 
-ghost use Rattle.std.specs.Prelude.{◌≡◌, option_copied};
-ghost use Rattle.nesc_macros.specs.Invocation.{is_among, is_word, is_sign, macro_of};
+ghost use Rattle.std.specs.Prelude.{◌≡◌};
+ghost use Rattle.nesc_macros.specs.Invocation.{is_among, is_word, is_sign};
 
-use crate::definition::Macro;
 use nm_base::{Kind, Name, Token};
 
 /// Whether the name is one of the names.
@@ -25,11 +24,4 @@ pub fn is_sign(text: &[u8], token: &Token) -> bool
     ensures { result ≡ is_sign text.now token.now }
 {
     matches!(token.kind, Kind::Sign) && token.text.as_bytes() == text
-}
-
-/// The macro of this name.
-pub fn macro_of<'m>(macros: &'m [Macro], name: &Name) -> Option<&'m Macro>
-    ensures { option_copied result ≡ macro_of macros.now name.now }
-{
-    macros.iter().find(|m| &m.name == name)
 }

@@ -52,13 +52,13 @@ close_last world s empty alone closed = record {
 }
 
 pub close_goes : (world : World) (old new : Scan) (f : OpenFile) → old.rest.items ≡ [] → old.outer.items ≡ f ∷ new.outer.items → outermost old.context.conditionals.items ≡ None
-    → known_in new ≡ known_in old → new.context.macros.items ≡ old.context.macros.items → new.context.conditionals.items ≡ f.conditionals.items → new.rest.items ≡ f.rest.items → new.out.items ≡ old.out.items
+    → known_in new ≡ known_in old → new.context.macros ≡ old.context.macros → new.context.conditionals.items ≡ f.conditionals.items → new.rest.items ≡ f.rest.items → new.out.items ≡ old.out.items
     → Goes world old new
 close_goes world old new f empty others closed known macros conditionals rest out r ends = record {
   later = ends.later;
   scans = same_scan world (state_in old) (state_in old) (End ∷ outer_items old.outer.items) (items_in old) ends.later refl (at_end old empty)
       (end_goes world (state_in old) (outer_items old.outer.items) ends.later closed
-      (same_scan world (state_in new) (state_of (known_in old) old.context.macros.items (outer_conditionals old.outer.items)) (items_in new) (outer_items old.outer.items) ends.later
+      (same_scan world (state_in new) (state_of (known_in old) old.context.macros (outer_conditionals old.outer.items)) (items_in new) (outer_items old.outer.items) ends.later
       (same_state _ _ _ _ _ _ (sym known) (sym macros) (ap outer_conditionals others ∙ ap (λ cs. cs ∷ outer_conditionals new.outer.items) (sym conditionals)))
       (ap outer_items others ∙ ap (λ ts. put_file ts (outer_items new.outer.items)) (sym rest))
       ends.scans));
@@ -87,7 +87,7 @@ skip_goes world t old new is skips state outer rest out r ends = record {
 
 -- a run that is expanded
 pub run_leads : (world : World) (t : Token) (old new : Scan) (xs : List Token) → begins_directive t ≡ false → is_live old.context.conditionals.items ≡ true
-    → Settles (λ n. expanded_tokens n old.context.macros.items old.context.known.tokens (t ∷ run_of old.rest.items)) (record { value = Ok xs; count = new.context.known.tokens })
+    → Settles (λ n. expanded_tokens n old.context.macros old.context.known.tokens (t ∷ run_of old.rest.items)) (record { value = Ok xs; count = new.context.known.tokens })
     → state_in new ≡ state_at (with_tokens (situation (state_in old)) new.context.known.tokens) (outer_of (state_in old).files)
     → outer_items new.outer.items ≡ outer_items old.outer.items → new.rest.items ≡ behind_run old.rest.items → new.out.items ≡ old.out.items ++ xs
     → GoesBehind world t old new
@@ -100,7 +100,7 @@ run_leads world t old new xs is lives expands state outer rest out r ends = reco
 }
 
 run_stops : (world : World) (t : Token) (old new : Scan) (e : Fault) → begins_directive t ≡ false → is_live old.context.conditionals.items ≡ true
-    → Settles (λ n. expanded_tokens n old.context.macros.items old.context.known.tokens (t ∷ run_of old.rest.items)) (record { value = Err e; count = new.context.known.tokens })
+    → Settles (λ n. expanded_tokens n old.context.macros old.context.known.tokens (t ∷ run_of old.rest.items)) (record { value = Err e; count = new.context.known.tokens })
     → known_in new ≡ with_count new.context.known.tokens (known_in old) → EndsAt world t old (refused e (known_in new))
 run_stops world t old new e is lives expands known = record {
   later = refused e (with_count new.context.known.tokens (known_in old));
@@ -110,7 +110,7 @@ run_stops world t old new e is lives expands known = record {
 
 run_fault_at : (world : World) (t : Token) (old new : Scan) (e : Fault) → begins_directive t ≡ false → is_live old.context.conditionals.items ≡ true
     → known_in new ≡ with_count new.context.known.tokens (known_in old)
-    → FailsTo old.context.macros.items old.context.known.tokens (t ∷ run_of old.rest.items) e new.context.known.tokens → LeadsBehind (Err e) world t old new
+    → FailsTo old.context.macros old.context.known.tokens (t ∷ run_of old.rest.items) e new.context.known.tokens → LeadsBehind (Err e) world t old new
 run_fault_at world t old new (fault.Refused r) is lives known f = run_stops world t old new (fault.Refused r) is lives f known
 run_fault_at world t old new (fault.Missing n) is lives known f = run_stops world t old new (fault.Missing n) is lives f known
 run_fault_at world t old new fault.ReadFault is lives known f = run_stops world t old new fault.ReadFault is lives f known
@@ -119,7 +119,7 @@ run_fault_at world t old new (fault.TooLarge r n) is lives known f = run_stops w
 run_fault_at world t old new fault.NoMemory is lives known f = tt
 
 -- a run of which the expansion is refused
-pub run_fault : (world : World) (t : Token) (old new : Scan) (e : Fault) (run : List Token) (macros : List Macro) → macros ≡ old.context.macros.items → run ≡ t ∷ run_of old.rest.items → begins_directive t ≡ false → is_live old.context.conditionals.items ≡ true
+pub run_fault : (world : World) (t : Token) (old new : Scan) (e : Fault) (run : List Token) (macros : List Macro) → macros ≡ old.context.macros → run ≡ t ∷ run_of old.rest.items → begins_directive t ≡ false → is_live old.context.conditionals.items ≡ true
     → FailsTo macros old.context.known.tokens run e new.context.known.tokens
     → known_in new ≡ with_count new.context.known.tokens (known_in old) → LeadsBehind (Err e) world t old new
 run_fault world t old new e run macros same-macros same-run is lives fails known = run_fault_at world t old new e is lives known (rw (same-macros, same-run) at fails)
@@ -142,14 +142,14 @@ directive_leads world t old new is obeys outer files rest out r ends = record {
 -- a directive that opens a header
 pub header_leads : (world : World) (t : Token) (old new : Scan) (now : Context) (header : List Token) → begins_directive t ≡ true
     → Settles (λ n. obeyed n world (length (state_in old).files) t.pos (line_of old.rest.items) (situation (state_in old))) (record { value = Ok (Some header); now = situation_of now })
-    → known_in new ≡ known_of now.known → new.context.macros.items ≡ now.macros.items → new.context.conditionals.items ≡ []
+    → known_in new ≡ known_of now.known → new.context.macros ≡ now.macros → new.context.conditionals.items ≡ []
     → outer_conditionals new.outer.items ≡ now.conditionals.items ∷ outer_conditionals old.outer.items
     → outer_items new.outer.items ≡ put_file (behind_line old.rest.items) (outer_items old.outer.items) → new.rest.items ≡ header → new.out.items ≡ old.out.items
     → GoesBehind world t old new
 header_leads world t old new now header is obeys known macros conditionals files outer rest out r ends = record {
   later = ends.later;
   scans = directive_goes world (state_in old) t old.rest.items (outer_items old.outer.items) (situation_of now) (Some header) ends.later is obeys
-      (same_scan world (state_in new) (state_of (known_of now.known) now.macros.items ([] ∷ now.conditionals.items ∷ outer_conditionals old.outer.items)) (items_in new)
+      (same_scan world (state_in new) (state_of (known_of now.known) now.macros ([] ∷ now.conditionals.items ∷ outer_conditionals old.outer.items)) (items_in new)
       (put_file header (put_file (behind_line old.rest.items) (outer_items old.outer.items))) ends.later
       (same_state _ _ _ _ _ _ (sym known) (sym macros) (ap (λ fs. [] ∷ fs) (sym files) ∙ ap (λ cs. cs ∷ outer_conditionals new.outer.items) (sym conditionals)))
       (ap (λ ts. put_file ts (put_file (behind_line old.rest.items) (outer_items old.outer.items))) (sym rest) ∙ ap (λ xs. put_file new.rest.items xs) (sym outer)) ends.scans);

@@ -113,7 +113,7 @@ open_refused told some old name fault.NoMemory new h = tt
 
 -- ---- a scan from the beginning of a file
 
-pub from_start : (world : World) (s : Scan) (known : KnownFiles) (ts : List Token) (r : Scanned) → s.context.known ≡ known → s.context.macros.items ≡ [] → s.context.conditionals.items ≡ [] → s.rest.items ≡ ts → s.outer.items ≡ [] → s.out.items ≡ []
+pub from_start : (world : World) (s : Scan) (known : KnownFiles) (ts : List Token) (r : Scanned) → s.context.known ≡ known → s.context.macros ≡ [] → s.context.conditionals.items ≡ [] → s.rest.items ≡ ts → s.outer.items ≡ [] → s.out.items ≡ []
     → EndsFrom world s r → Ends world (start_of (known_of known)) (put_file ts []) [] r
 from_start world s known ts r is-known macros conditionals rest outer out ends =
     let state : start_of (known_of known) ≡ state_in s = rw (is-known, macros, conditionals, outer) in

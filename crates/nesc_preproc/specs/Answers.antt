@@ -3,8 +3,7 @@ use Rattle.std.specs.Prelude.{◌≡◌, ℕ, ◌≤◌, Bool, List, length, Opt
 use Rattle.std.specs.declared.alloc.Global.{Global}
 use Rattle.nm_base.specs.declared.token.Token.{Token}
 use Rattle.nm_base.specs.Outside.{FilesSeen, IsReadBy}
-use Rattle.nesc_macros.specs.Invocation.{Name}
-use Rattle.nesc_preproc.specs.Expands.{Told, IfMissing}
+use Rattle.nesc_preproc.specs.Expands.{IfMissing}
 use Rattle.nm_base.specs.declared.fault.Fault.{Fault}
 use Rattle.nm_base.specs.declared.fault.Fault.TheVariants as fault
 use Rattle.nesc_macros.specs.Expansion.{Answer, Settles, max_tokens}
@@ -13,7 +12,7 @@ use Rattle.nesc_preproc.specs.Kept.{known_of}
 use Rattle.nesc_preproc.specs.Obeyed.{Situation, Outcome, goes_on, stops}
 
 abbrev pub situation_of : Context → Situation
-situation_of c = record { known = known_of c.known; macros = c.macros.items; conditionals = c.conditionals.items }
+situation_of c = record { known = known_of c.known; macros = c.macros; conditionals = c.conditionals.items }
 
 -- the answer to whether a condition holds, with the count of tokens by then
 abbrev pub Asks : Result Bool Fault → ℕ → (ℕ → Option (Answer Bool)) → Type 0

@@ -1,13 +1,13 @@
 -- What a `#define` line defines, and which file an `#include` line names (C99 6.10.2, 6.10.3; own: no operators `#` and
 -- `##`, no variable arguments, file names taken as they are spelled).
-use Rattle.std.specs.Prelude.{◌+◌, ◌-◌, Bool, true, false, not, ◌&&◌, ◌||◌, List, [], ◌∷◌, ◌++◌, nat_eq, codes, length, take, drop, filter, Option, Some, None}
+use Rattle.std.specs.Prelude.{◌+◌, ◌-◌, Bool, true, false, not, ◌&&◌, ◌||◌, List, [], ◌∷◌, ◌++◌, nat_eq, codes, length, take, drop, Option, Some, None}
 use Rattle.std.specs.List.{list_any}
 use Rattle.nm_base.specs.declared.token.Kind.TheVariants.{Text}
 use Rattle.nm_base.specs.declared.token.Token.{Token}
 use Rattle.nesc_macros.specs.declared.definition.Macro.{Macro}
 use Rattle.nesc_preproc.specs.declared.definitions.NextParameter.{NextParameter}
 use Rattle.nesc_preproc.specs.declared.definitions.NextParameter.TheVariants.{Malformed, Last, More}
-use Rattle.nesc_macros.specs.Invocation.{Name, same_name, is_among, is_word, is_sign}
+use Rattle.nesc_macros.specs.Invocation.{Name, is_among, is_word, is_sign}
 
 -- nothing stands between the two
 abbrev pub touches : Token → Token → Bool
@@ -72,9 +72,6 @@ defined_behind name (t ∷ ts) = elim (is_sign (codes "(") t && touches name t) 
 abbrev pub defined_by : List Token → Option Macro
 defined_by [] = None
 defined_by (name ∷ ts) = elim (is_word name) [ true ↦ defined_behind name ts | false ↦ None ]
-
-abbrev pub without : Name → List Macro → List Macro
-without name = filter (λ (m : Macro). not (same_name m.name name))
 
 -- the one word of a line
 abbrev pub only_word : List Token → Option Name

@@ -15,7 +15,8 @@ use Rattle.nesc_preproc.specs.declared.directive.Directive.{Directive}
 use Rattle.nesc_preproc.specs.declared.directive.Directive.TheVariants as directive
 use Rattle.nesc_preproc.specs.declared.conditional.Conditional.{Conditional}
 use Rattle.nesc_preproc.specs.Lines.{directives_of}
-use Rattle.nesc_preproc.specs.Definitions.{defined_by, without, only_word, included_by}
+use Rattle.nesc_macros.specs.Tables.{without}
+use Rattle.nesc_preproc.specs.Definitions.{defined_by, only_word, included_by}
 use Rattle.nesc_preproc.specs.Sources.{Known, World, Opened, with_count, opened}
 use Rattle.nesc_preproc.specs.Conditionals.{is_live, begun, skipped, at_group, else_at, end_at}
 

@@ -25,7 +25,7 @@ abbrev pub items_in : Scan → List Item
 items_in s = put_file s.rest.items (outer_items s.outer.items)
 
 abbrev pub state_in : Scan → State
-state_in s = record { known = known_of s.context.known; macros = s.context.macros.items; files = s.context.conditionals.items ∷ outer_conditionals s.outer.items }
+state_in s = record { known = known_of s.context.known; macros = s.context.macros; files = s.context.conditionals.items ∷ outer_conditionals s.outer.items }
 
 abbrev pub known_in : Scan → Known
 known_in s = known_of s.context.known

@@ -9,7 +9,7 @@ ghost use Rattle.nesc_preproc.specs.Answers.{Asks, situation_of};
 use crate::conditional::Conditional;
 use crate::known::KnownFiles;
 use nesc_conditions::{resolve_defined, value_of};
-use nesc_macros::{Macro, expand_list};
+use nesc_macros::{Macros, expand_list};
 use nm_base::{Fault, NoMemory, Pos, Refusal, Token};
 use std::alloc::Global;
 use std::collections::VecDeque;
@@ -18,7 +18,7 @@ use std::collections::VecDeque;
 #[derive(Debug, Drop)]
 pub(crate) struct Context {
     pub known: KnownFiles,
-    pub macros: Vec<Macro>,
+    pub macros: Macros,
     pub conditionals: VecDeque<Conditional>,
 }
 
@@ -59,7 +59,7 @@ impl Context {
     /// Whether the condition of a line holds. The replacements in it are counted.
     pub fn holds(&mut self, alloc: Global, pos: Pos, line: &[Token]) -> Result<bool, Fault>
         requires within { self.old.known.tokens ≤ max_tokens }
-        ensures asked { Asks result self.new.known.tokens (λ steps. asked steps self.old.macros.items self.old.known.tokens pos line.now) }
+        ensures asked { Asks result self.new.known.tokens (λ steps. asked steps self.old.macros self.old.known.tokens pos line.now) }
         ensures kept { situation_of self.new ≡ with_tokens (situation_of self.old) self.new.known.tokens }
         ensures within { self.new.known.tokens ≤ max_tokens }
         ensures read { IsNoReadFault result }

@@ -2,7 +2,7 @@
 
 ghost use Rattle.std.specs.Prelude.{◌≡◌, ◌-◌, ◌&&◌, not, [], length, take, drop, codes, IfOk, option_copied};
 ghost use Rattle.nesc_macros.specs.Invocation.{is_among, is_word, is_sign};
-ghost use Rattle.nesc_preproc.specs.Definitions.{touches, is_hash, has_hash, has_paste, with_replacement, object_like, function_like, next_parameter, parameters_of, with_parameters, defined_behind, defined_by, without, only_word, angled, quoted, included_by};
+ghost use Rattle.nesc_preproc.specs.Definitions.{touches, is_hash, has_hash, has_paste, with_replacement, object_like, function_like, next_parameter, parameters_of, with_parameters, defined_behind, defined_by, only_word, angled, quoted, included_by};
 
 use nesc_macros::{Macro, is_among, is_sign, is_word};
 use nm_base::{Kind, List, Name, NoMemory, Token};
@@ -182,20 +182,6 @@ pub(crate) fn defined_by(alloc: Global, line: &[Token]) -> Result<Option<Macro>,
             } else {
                 Ok(None)
             }
-        }
-    }
-}
-
-/// Removes the macro of this name.
-pub(crate) fn remove_macro(macros: &mut Vec<Macro>, name: &Name)
-    ensures { macros.new.items ≡ without name.now macros.old.items }
-{
-    let mut index = 0;
-    while index < macros.len() {
-        if &macros[index].name == name {
-            macros.remove(index);
-        } else {
-            index += 1;
         }
     }
 }

@@ -11,7 +11,6 @@ use crate::conditional::{Conditional, close, is_live, to_last_group};
 use crate::context::{Context, malformed};
 use crate::definitions::only_word;
 use crate::directive::Directive;
-use nesc_macros::macro_of;
 use nm_base::{Fault, Pos, Token};
 use std::alloc::Global;
 
@@ -45,7 +44,7 @@ fn begin_ifdef(context: &mut Context, pos: Pos, line: &[Token], wanted: bool) ->
     let Some(name) = only_word(line) else {
         return Err(malformed(pos));
     };
-    let defined = macro_of(context.macros.as_slice(), name).is_some();
+    let defined = context.macros.get(name).is_some();
     context.open(Conditional::begun(pos, defined == wanted))?;
     Ok(())
 }

@@ -16,8 +16,6 @@ mod reading;
 mod rows;
 mod scan;
 mod sources;
-#[cfg(test)]
-mod tests;
 
 pub use expansion::expand;
 pub use laws::one_expansion;

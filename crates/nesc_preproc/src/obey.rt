@@ -10,7 +10,7 @@ ghost use Rattle.nesc_preproc.specs.Answers.{Counts, Gives, GivesIn, Includes, O
 
 use crate::conditional::is_live;
 use crate::context::{Context, malformed};
-use crate::definitions::{defined_by, included_by, only_word, remove_macro};
+use crate::definitions::{defined_by, included_by, only_word};
 use crate::directive::Directive;
 use crate::groups::obey_conditional;
 use crate::lines::directives_of;
@@ -30,20 +30,19 @@ fn define(alloc: Global, context: &mut Context, pos: Pos, line: &[Token]) -> Res
     let Some(definition) = defined_by(alloc, line)? else {
         return Err(malformed(pos));
     };
-    remove_macro(&mut context.macros, &definition.name);
-    context.macros.push(definition)?;
+    context.macros.define(alloc, definition)?;
     Ok(())
 }
 
 // `#undef`.
-fn undefine(context: &mut Context, pos: Pos, line: &[Token]) -> Result<(), Fault>
+fn undefine(alloc: Global, context: &mut Context, pos: Pos, line: &[Token]) -> Result<(), Fault>
     ensures obeyed { Obeys result context.new (or_malformed pos (situation_of context.old) (undefining (situation_of context.old) (only_word line.now))) }
     ensures read { IsNoReadFault result }
 {
     let Some(name) = only_word(line) else {
         return Err(malformed(pos));
     };
-    remove_macro(&mut context.macros, name);
+    context.macros.undefine(alloc, name)?;
     Ok(())
 }
 
@@ -102,7 +101,7 @@ fn obey_plain<F: Files>(
 {
     match directive {
         Directive::Define => define(alloc, context, pos, line)?,
-        Directive::Undef => undefine(context, pos, line)?,
+        Directive::Undef => undefine(alloc, context, pos, line)?,
         Directive::Include => {
             return Ok(Some(include(alloc, files, context, depth, pos, line)?));
         }

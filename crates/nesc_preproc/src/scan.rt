@@ -14,7 +14,7 @@ use crate::context::{Context, malformed};
 use crate::known::KnownFiles;
 use crate::lines::{begins_directive, take_line, take_run};
 use crate::obey::obey;
-use nesc_macros::expand_list;
+use nesc_macros::{Macros, expand_list};
 use nm_base::{Fault, Files, NoMemory, Token};
 use std::alloc::Global;
 use std::collections::VecDeque;
@@ -41,7 +41,7 @@ impl Scan {
     /// At the beginning of a file.
     pub fn new(alloc: Global, known: KnownFiles, tokens: Vec<Token>) -> Scan
         ensures known { result.context.known ≡ known }
-        ensures macros { result.context.macros.items ≡ [] }
+        ensures macros { result.context.macros ≡ [] }
         ensures conditionals { result.context.conditionals.items ≡ [] }
         ensures rest { result.rest.items ≡ tokens.items }
         ensures outer { result.outer.items ≡ [] }
@@ -50,7 +50,7 @@ impl Scan {
         Scan {
             context: Context {
                 known,
-                macros: Vec::new(alloc),
+                macros: Macros::new(alloc),
                 conditionals: VecDeque::new(alloc),
             },
             rest: VecDeque::from_vec(tokens),
@@ -119,8 +119,12 @@ impl Scan {
         if !is_live(&self.context.conditionals) {
             return Ok(());
         }
-        let macros = self.context.macros.as_slice();
-        let mut expanded = expand_list(alloc, macros, &mut self.context.known.tokens, run)?;
+        let mut expanded = expand_list(
+            alloc,
+            &self.context.macros,
+            &mut self.context.known.tokens,
+            run,
+        )?;
         self.out.append(&mut expanded)?;
         Ok(())
     }

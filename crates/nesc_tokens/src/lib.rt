@@ -10,8 +10,6 @@ mod pieces;
 mod rows;
 mod signs;
 mod splice;
-#[cfg(test)]
-mod tests;
 
 pub use lexer::{lex, one_lexing};
 pub use rows::worked_rows;

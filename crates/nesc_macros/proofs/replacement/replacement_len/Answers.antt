@@ -14,18 +14,18 @@ one_more len part more rest left whole largest same is now = omega arith
 pub loop-part-preserved : goal.loop-part-preserved
 loop-part-preserved c = record {
   within = omega (arith, c.saturating_add-len.ensures);
-  rest = λ macros pos hide_set.
+  rest = λ scope pos hide_set.
       let parts = c.as_slice-part-items.result.now in
-      let left : List Token → ℕ = λ ts. length (substituted pos hide_set c.args.parameters.now (map (all_shown macros) c.args.arguments.now) ts) in
+      let left : List Token → ℕ = λ ts. length (substituted pos hide_set c.args.parameters.now (map (all_shown scope) c.args.arguments.now) ts) in
       let cut : drop c.loop-part.part-index parts ≡ c.part-item.result ∷ drop (c.loop-part.part-index + 1) parts = drop_more parts c.loop-part.part-index c.part-item.result (omega (arith, c.loop-part-test.true)) ∙ ap (λ (t : Token). t ∷ drop (c.loop-part.part-index + 1) parts) (sym c.part-item.is) in
-      one_more c.loop-part.len c.part_len.result c.saturating_add-len.result (left (drop (c.loop-part.part-index + 1) parts)) (left (drop c.loop-part.part-index parts)) (left parts) (2 ^ 64 - 1) (c.loop-part.invariant.rest macros pos hide_set) (ap left cut ∙ c.part_len.ensures macros pos hide_set (drop (c.loop-part.part-index + 1) parts)) c.saturating_add-len.ensures;
+      one_more c.loop-part.len c.part_len.result c.saturating_add-len.result (left (drop (c.loop-part.part-index + 1) parts)) (left (drop c.loop-part.part-index parts)) (left parts) (2 ^ 64 - 1) (c.loop-part.invariant.rest scope pos hide_set) (ap left cut ∙ c.part_len.ensures scope pos hide_set (drop (c.loop-part.part-index + 1) parts)) c.saturating_add-len.ensures;
 }
 
 pub returns : goal.returns
-returns c macros pos hide_set =
+returns c scope pos hide_set =
     let parts = c.as_slice-part-items.result.now in
     let none : drop c.loop-part.part-index parts ≡ [] = drop_all c.loop-part.part-index parts (omega (arith, c.loop-part-test.false)) in
-    let left : length (substituted pos hide_set c.args.parameters.now (map (all_shown macros) c.args.arguments.now) (drop c.loop-part.part-index parts)) ≡ 0 =
-    ap (λ (ts : List Token). length (substituted pos hide_set c.args.parameters.now (map (all_shown macros) c.args.arguments.now) ts)) none in
-    at_end _ _ _ _ (c.loop-part.invariant.rest macros pos hide_set) left c.loop-part.invariant.within
-    ∙ ap (λ (ts : List Token). min (length (substituted pos hide_set c.args.parameters.now (map (all_shown macros) c.args.arguments.now) ts)) (2 ^ 64 - 1)) c.as_slice-part-items.ensures
+    let left : length (substituted pos hide_set c.args.parameters.now (map (all_shown scope) c.args.arguments.now) (drop c.loop-part.part-index parts)) ≡ 0 =
+    ap (λ (ts : List Token). length (substituted pos hide_set c.args.parameters.now (map (all_shown scope) c.args.arguments.now) ts)) none in
+    at_end _ _ _ _ (c.loop-part.invariant.rest scope pos hide_set) left c.loop-part.invariant.within
+    ∙ ap (λ (ts : List Token). min (length (substituted pos hide_set c.args.parameters.now (map (all_shown scope) c.args.arguments.now) ts)) (2 ^ 64 - 1)) c.as_slice-part-items.ensures

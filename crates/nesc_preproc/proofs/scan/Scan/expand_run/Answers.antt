@@ -26,7 +26,7 @@ returns-in_err-expanded-clause-leads c world =
       outer = c.args.self.now.outer;
       out = c.args.self.now.out;
     } in
-    rw (p.1, p.2) (run_fault world c.args.first c.args.self.now new c.in_err-expanded.field-0.0 c.in_ok-run.run'.items c.as_slice-macros.result.now c.as_slice-macros.ensures.value c.in_ok-run.ensures.run c.requires.plain lives c.in_err-expanded.ensures.refused refl)
+    rw (p.1, p.2) (run_fault world c.args.first c.args.self.now new c.in_err-expanded.field-0.0 c.in_ok-run.run'.items c.args.self.now.context.macros refl c.in_ok-run.ensures.run c.requires.plain lives c.in_err-expanded.ensures.refused refl)
 
 pub returns-clause-leads : goal.returns-clause-leads
 returns-clause-leads c world =
@@ -39,7 +39,7 @@ returns-clause-leads c world =
       out = c.append.new.self;
     } in
     run_leads world c.args.first c.args.self.now new c.in_ok-expanded.expanded.items c.requires.plain lives
-    (rw (c.as_slice-macros.ensures.value, c.in_ok-run.ensures.run) at c.in_ok-expanded.ensures.expanded) refl refl c.in_ok-run.ensures.rest c.in_ok-append.ensures.items
+    (rw c.in_ok-run.ensures.run at c.in_ok-expanded.ensures.expanded) refl refl c.in_ok-run.ensures.rest c.in_ok-append.ensures.items
 
 pub returns-clause-size : goal.returns-clause-size
 returns-clause-size c = rw c.in_ok-run.ensures.rest (run_shorter c.args.self.now.rest.items)

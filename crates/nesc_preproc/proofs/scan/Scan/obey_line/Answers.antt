@@ -3,7 +3,6 @@ use Rattle.std.proofs.lemmas.Result.{err_from_is_err_and}
 use Rattle.nesc_preproc.specs.Lines.{behind_line}
 use Rattle.std.specs.declared.alloc.Global.{Global}
 use Rattle.nm_base.specs.declared.token.Token.{Token}
-use Rattle.nesc_macros.specs.declared.definition.Macro.{Macro}
 use Rattle.nesc_preproc.specs.declared.known.KnownFiles.{KnownFiles}
 use Rattle.nesc_preproc.specs.Kept.{BreaksFrom, known_of}
 use Rattle.nesc_preproc.specs.Scanned.{put_file, situation}
@@ -42,7 +41,7 @@ returns-in-Some-clause-leads g c world told lexing breaks =
     header_leads world c.args.hash old c.open.new.self c.obey.new.context c.in-Some.header.items c.requires.directive
     (obeyed_at world _ _ c.args.hash.pos _ _ (situation (state_in old)) c.obey.new.context (Ok (Some c.in-Some.header)) (ap (λ n. n + 1) outer ∙ sym (depth_is old)) (c.deref.ensures.value ∙ c.in_ok-line.ensures.line)
     (rw c.in-Some.is at c.in_ok-header.ensures.obeyed world told lexing breaks-now))
-    (ap known_of c.in_ok-open-in-Some.ensures.known) (ap (λ (m : Vec Macro Global). m.items) c.in_ok-open-in-Some.ensures.macros) c.in_ok-open-in-Some.ensures.conditionals c.in_ok-open-in-Some.ensures.files
+    (ap known_of c.in_ok-open-in-Some.ensures.known) c.in_ok-open-in-Some.ensures.macros c.in_ok-open-in-Some.ensures.conditionals c.in_ok-open-in-Some.ensures.files
     (c.in_ok-open-in-Some.ensures.outer ∙ ap (λ ts. put_file ts (outer_items old.outer.items)) c.in_ok-line.ensures.rest) c.in_ok-open-in-Some.ensures.rest (ap (λ (v : Vec Token Global). v.items) c.in_ok-open-in-Some.ensures.out)
 
 pub returns-in-Some-clause-size : goal.returns-in-Some-clause-size

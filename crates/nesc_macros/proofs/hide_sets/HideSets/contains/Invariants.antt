@@ -1,0 +1,11 @@
+use Rattle.std.proofs.Common.{◌≡◌, List}
+use Rattle.nesc_macros.specs.declared.hide_sets.Link.{Link}
+use Rattle.nesc_macros.specs.Numbers.{has}
+use Rattle.nesc_macros.specs.Sets.{Extends, numbers_in}
+use Rattle.nesc_macros.proofs.hide_sets.HideSets.contains.Given as goal
+
+abbrev pub invariant-loop-rest : goal.invariant-loop-rest
+invariant-loop-rest l = (links : List Link) → Extends l.self.links.items links → has (numbers_in links l.rest) l.number ≡ has (numbers_in links l.set) l.number
+
+abbrev pub decreases-loop-rest : goal.decreases-loop-rest
+decreases-loop-rest l = l.rest.len
