@@ -13,17 +13,24 @@ use Rattle.nesc_macros.specs.Invocation.{Name, is_among, is_word, is_sign}
 abbrev pub touches : Token → Token → Bool
 touches a b = nat_eq a.pos.line b.pos.line && nat_eq (a.pos.col + length a.text) b.pos.col
 
+-- the second may touch the first across a line splice: it begins a later line
+abbrev pub is_spliced : Token → Token → Bool
+is_spliced a b = not (nat_eq a.pos.line b.pos.line) && nat_eq b.pos.col 1
+
+abbrev pub may_touch : Token → Token → Bool
+may_touch a b = touches a b || is_spliced a b
+
 abbrev pub is_hash : Token → Bool
 is_hash = is_sign (codes "#")
 
 abbrev pub has_hash : List Token → Bool
 has_hash = list_any is_hash
 
--- `##`
+-- `##`, also where the two may touch
 abbrev pub has_paste : List Token → Bool
 has_paste [] = false
 has_paste (t ∷ []) = false
-has_paste (t ∷ u ∷ ts) = (is_hash t && (is_hash u && touches t u)) || has_paste (u ∷ ts)
+has_paste (t ∷ u ∷ ts) = (is_hash t && (is_hash u && may_touch t u)) || has_paste (u ∷ ts)
 
 abbrev pub with_replacement : Bool → Name → Option (List Name) → List Token → Option Macro
 with_replacement true name parameters ts = None
@@ -64,9 +71,14 @@ abbrev pub with_parameters : Name → List Token → Option Macro
 with_parameters name [] = None
 with_parameters name (t ∷ ts) = elim (is_sign (codes ")") t) [ true ↦ function_like name [] ts | false ↦ parameters_of name [] (t ∷ ts) ]
 
+-- a parenthesis that touches the name opens a parameter list; whether one behind a line splice does is not told by places
 abbrev pub defined_behind : Token → List Token → Option Macro
 defined_behind name [] = object_like name.text []
-defined_behind name (t ∷ ts) = elim (is_sign (codes "(") t && touches name t) [ true ↦ with_parameters name.text ts | false ↦ object_like name.text (t ∷ ts) ]
+defined_behind name (t ∷ ts) =
+    elim (is_sign (codes "(") t && touches name t) [
+      | true ↦ with_parameters name.text ts
+      | false ↦ elim (is_sign (codes "(") t && is_spliced name t) [ true ↦ None | false ↦ object_like name.text (t ∷ ts) ]
+    ]
 
 -- the macro of the line behind `#define`
 abbrev pub defined_by : List Token → Option Macro

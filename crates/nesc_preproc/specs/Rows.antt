@@ -114,6 +114,25 @@ abbrev pub includes_apart : List Token
 includes_apart =
     hash 1 ∷ w 1 2 (codes "include") ∷ s 1 10 (codes "<") ∷ w 1 11 (codes "b") ∷ w 1 13 (codes "b") ∷ s 1 14 (codes ".") ∷ w 1 15 (codes "h") ∷ s 1 16 (codes ">") ∷ []
 
+-- #define f\
+-- (x) x
+abbrev pub spliced_parenthesis : List Token
+spliced_parenthesis =
+    hash 1 ∷ w 1 2 (codes "define") ∷ w 1 9 (codes "f") ∷ s 2 1 (codes "(") ∷ w 2 2 (codes "x") ∷ s 2 3 (codes ")") ∷ w 2 5 (codes "x") ∷ []
+
+-- #define f \
+--  (x)
+-- f
+abbrev pub spliced_blank : List Token
+spliced_blank =
+    hash 1 ∷ w 1 2 (codes "define") ∷ w 1 9 (codes "f") ∷ s 2 2 (codes "(") ∷ w 2 3 (codes "x") ∷ s 2 4 (codes ")")
+    ∷ token true Word 3 1 (codes "f") ∷ []
+
+-- #define f #\
+-- # x
+abbrev pub spliced_paste : List Token
+spliced_paste = hash 1 ∷ w 1 2 (codes "define") ∷ w 1 9 (codes "f") ∷ s 1 11 (codes "#") ∷ s 2 1 (codes "#") ∷ w 2 3 (codes "x") ∷ []
+
 pub record WorkedRows : Type 0 where
   pub loop : reads (includes_itself ∷ []) ≡ Some (Err (fault.Refused (refusal.IncludeLoop (record { file = 0; line = 1; col = 1 }))), 600)
   pub uses_macro : reads (uses ∷ []) ≡ Some (Ok (codes "1" ∷ codes "f" ∷ codes "(" ∷ codes "2" ∷ codes ")" ∷ []), 17)
@@ -125,3 +144,7 @@ pub record WorkedRows : Type 0 where
   pub skipped_lines : reads (skips_nested ∷ []) ≡ Some (Ok (codes "p" ∷ []), 14)
   -- the tokens of a file's name touch
   pub apart : reads (includes_apart ∷ []) ≡ Some (Err (fault.Refused (refusal.BadDirective (record { file = 0; line = 1; col = 1 }))), 8)
+  -- behind a line splice a parenthesis and a second `#` may touch what stands before them
+  pub parenthesis_behind_splice : reads (spliced_parenthesis ∷ []) ≡ Some (Err (fault.Refused (refusal.BadDirective (record { file = 0; line = 1; col = 1 }))), 7)
+  pub blank_behind_splice : reads (spliced_blank ∷ []) ≡ Some (Ok (codes "(" ∷ codes "x" ∷ codes ")" ∷ []), 10)
+  pub paste_behind_splice : reads (spliced_paste ∷ []) ≡ Some (Err (fault.Refused (refusal.BadDirective (record { file = 0; line = 1; col = 1 }))), 6)

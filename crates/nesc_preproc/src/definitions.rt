@@ -2,7 +2,7 @@
 
 ghost use Rattle.std.specs.Prelude.{◌≡◌, ◌-◌, ◌&&◌, not, [], length, take, drop, codes, IfOk, option_copied};
 ghost use Rattle.nesc_macros.specs.Invocation.{is_among, is_word, is_sign};
-ghost use Rattle.nesc_preproc.specs.Definitions.{touches, is_hash, has_hash, has_paste, with_replacement, object_like, function_like, next_parameter, parameters_of, with_parameters, defined_behind, defined_by, only_word, angled, quoted, included_by};
+ghost use Rattle.nesc_preproc.specs.Definitions.{touches, is_spliced, may_touch, is_hash, has_hash, has_paste, with_replacement, object_like, function_like, next_parameter, parameters_of, with_parameters, defined_behind, defined_by, only_word, angled, quoted, included_by};
 
 use nesc_macros::{Macro, is_among, is_sign, is_word};
 use nm_base::{Kind, List, Name, NoMemory, Token};
@@ -13,6 +13,19 @@ fn touches(a: &Token, b: &Token) -> bool
 {
     a.pos.line == b.pos.line
         && u64::from(a.pos.col) + a.text.as_bytes().len() as u64 == u64::from(b.pos.col)
+}
+
+// Whether the second may touch the first across a line splice: it begins a later line.
+fn is_spliced(a: &Token, b: &Token) -> bool
+    ensures { result ≡ is_spliced a.now b.now }
+{
+    a.pos.line != b.pos.line && b.pos.col == 1
+}
+
+fn may_touch(a: &Token, b: &Token) -> bool
+    ensures { result ≡ may_touch a.now b.now }
+{
+    touches(a, b) || is_spliced(a, b)
 }
 
 fn is_hash(token: &Token) -> bool
@@ -27,11 +40,11 @@ fn has_hash(tokens: &[Token]) -> bool
     tokens.iter().any(|token| is_hash(token))
 }
 
-// Whether the two tokens are `##`.
+// Whether the two tokens are `##`, or may be.
 fn is_paste(a: &Token, b: &Token) -> bool
-    ensures { result ≡ (is_hash a.now && (is_hash b.now && touches a.now b.now)) }
+    ensures { result ≡ (is_hash a.now && (is_hash b.now && may_touch a.now b.now)) }
 {
-    is_hash(a) && is_hash(b) && touches(a, b)
+    is_hash(a) && is_hash(b) && may_touch(a, b)
 }
 
 fn has_paste(tokens: &[Token]) -> bool
@@ -148,6 +161,13 @@ fn with_parameters(alloc: Global, name: &Name, tokens: &[Token]) -> Result<Optio
     }
 }
 
+// Whether a line splice hides whether the token opens the parameter list of a macro of this name.
+fn may_open_parameters(name: &Token, token: &Token) -> bool
+    ensures { result ≡ (is_sign (codes "(") token.now && is_spliced name.now token.now) }
+{
+    is_sign(b"(", token) && is_spliced(name, token)
+}
+
 // Whether the token opens the parameter list of a macro of this name.
 fn opens_parameters(name: &Token, token: &Token) -> bool
     ensures { result ≡ (is_sign (codes "(") token.now && touches name.now token.now) }
@@ -163,6 +183,8 @@ fn defined_behind(alloc: Global, name: &Token, tokens: &[Token]) -> Result<Optio
         [first, after @ ..] => {
             if opens_parameters(name, first) {
                 with_parameters(alloc, &name.text, after)
+            } else if may_open_parameters(name, first) {
+                Ok(None)
             } else {
                 object_like(alloc, &name.text, tokens)
             }

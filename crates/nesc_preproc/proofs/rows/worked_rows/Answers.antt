@@ -16,4 +16,7 @@ returns c = record {
   unbalanced = refl;
   skipped_lines = refl;
   apart = refl;
+  parenthesis_behind_splice = refl;
+  blank_behind_splice = refl;
+  paste_behind_splice = refl;
 }
