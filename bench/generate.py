@@ -2,6 +2,7 @@
 """Writes the sources that the preprocessor's times are measured on, into a folder: NAME.nc each, of one shape,
 and an empty schedule, none.txt."""
 import os
+import random
 import sys
 
 SIZE = 250_000
@@ -31,6 +32,20 @@ def chain(length):
     return "".join(rows) + "int a = F%d(1);\n" % length
 
 
+def chain_in_chain(length):
+    rows = ["#define F0(x) x\n#define G0(x) x\n"]
+    rows += ["#define G%d(x) G%d(x)\n#define F%d(x) F%d(x)\n" % (n, n - 1, n, n - 1) for n in range(1, length + 1)]
+    return "".join(rows) + "int a = F%d(G%d(1));\n" % (length, length)
+
+
+def shuffled(length):
+    order = list(range(length))
+    random.Random(1).shuffle(order)
+    rows = {order[0]: "#define F%d(x) x\n" % order[0]}
+    rows.update({n: "#define F%d(x) F%d(x)\n" % (n, before) for before, n in zip(order, order[1:])})
+    return "".join(rows[n] for n in sorted(rows)) + "int a = F%d(1);\n" % order[-1]
+
+
 def nested(depth):
     return "#define F(x) x\nint a = " + "F(" * depth + "1" + ")" * depth + ";\n"
 
@@ -46,6 +61,8 @@ def filled(row):
 
 SHAPES = {"Plain": plain, "Comments": comments, "SmallMacros": small_macros, "Defines": defines}
 SHAPES.update({"Chain%d" % n: (lambda n=n: chain(n)) for n in (1000, 2000, 4000, 8000)})
+SHAPES.update({"ChainInChain%d" % n: (lambda n=n: chain_in_chain(n)) for n in (750, 1500, 3000)})
+SHAPES.update({"Shuffled%d" % n: (lambda n=n: shuffled(n)) for n in (2000, 4000, 8000)})
 SHAPES.update({"Nested%d" % n: (lambda n=n: nested(n)) for n in (1000, 2000, 4000, 8000)})
 
 if __name__ == "__main__":
