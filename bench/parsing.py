@@ -4,7 +4,7 @@
 usage: parsing.py PROGRAM [RUNS]    PROGRAM is parsed_rows, as `rt run parsed_rows` leaves it in out/
 
 Each text is one line: a call with many arguments, one that ends in a form that is left out (which is read once more), a type with
-many fields, and parentheses to the limit of depth in each argument. What is timed is the whole run: tokens, tree, and the tree as text.
+many fields, and parentheses, casts, operators of one level and calls near the limit of depth in each argument. What is timed is the whole run: tokens, tree, and the tree as text.
 """
 import os
 import subprocess
@@ -26,6 +26,9 @@ def texts(size):
         "left out": repeated("f(", "a[i] + (b * 3 - c) << 2, ", "a float)", size),
         "type": repeated("type struct s { ", "unsigned long *a, b[3 + 4]; ", "}", size),
         "deep": repeated("f(", deep, "a)", size),
+        "casts": repeated("f(", "(t)" * 190 + "a, ", "a)", size),
+        "operators": repeated("f(", "+".join(["a"] * 190) + ", ", "a)", size),
+        "calls": repeated("f(", "call A.b[" * 190 + "c" + "]()" * 190 + ", ", "a)", size),
     }
 
 
