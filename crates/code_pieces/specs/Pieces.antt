@@ -70,10 +70,14 @@ abbrev pub functions : Option ℕ → List ℕ
 functions None = []
 functions (Some f) = f ∷ []
 
--- The code at a line's vector: entry, a call of the handler's function where there is one, exit. It holds the acceptance's four bytes
--- and those of entry
+-- the acceptance's four bytes and those of entry; a line without a handler counts as one that calls a function without a frame
+abbrev pub line_frame : Option ℕ → ℕ
+line_frame None = 30
+line_frame (Some f) = 28
+
+-- The code at a line's vector: entry, a call of the handler's function where there is one, exit
 abbrev pub handler_of : Option ℕ → CodeFn
-handler_of body = whole 28 (functions body) (map Is entry ++ (map CallFn (functions body) ++ map Is exit))
+handler_of body = whole (line_frame body) (functions body) (map Is entry ++ (map CallFn (functions body) ++ map Is exit))
 
 -- The code at reset: SP is set to the top of RAM, GIE is set, the boot function is called; behind it the mote sleeps, and again each
 -- time it is woken

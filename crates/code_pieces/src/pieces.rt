@@ -1,7 +1,7 @@
 //! The pieces, the code at a line's vector, and the code at reset.
 
 ghost use Rattle.std.specs.Prelude.{◌≡◌, ◌<◌, ◌∷◌, [], ◌++◌, IfOk, OnOk, map};
-ghost use Rattle.code_pieces.specs.Pieces.{functions, handler_of, piece_of, reset_of};
+ghost use Rattle.code_pieces.specs.Pieces.{functions, handler_of, line_frame, piece_of, reset_of};
 ghost use Rattle.msp_isa.specs.declared.code.Item.TheVariants as item;
 
 use crate::put::{SP, put, put_begin, put_end, put_entry, put_exit, put_open, put_sleep};
@@ -85,6 +85,16 @@ fn called(alloc: Global, body: Option<u32>) -> Result<List<u32>, NoMemory>
     Ok(List::new(fns))
 }
 
+// What the acceptance and entry push. A line without a handler counts as one that calls a function without a frame.
+fn line_frame(body: Option<u32>) -> u16
+    ensures { result ≡ line_frame body }
+{
+    match body {
+        Some(_) => ACCEPTANCE + SAVED * WORD,
+        None => ACCEPTANCE + SAVED * WORD + WORD,
+    }
+}
+
 /// The code at a line's vector: entry, a call of the function at a place where the line has one, exit.
 pub fn handler_code(alloc: Global, _line: u8, body: Option<u32>) -> Result<CodeFn, NoMemory>
     requires line { _line < 8 }
@@ -95,7 +105,7 @@ pub fn handler_code(alloc: Global, _line: u8, body: Option<u32>) -> Result<CodeF
     put_call(&mut items, body)?;
     put_exit(&mut items)?;
     Ok(CodeFn {
-        frame: ACCEPTANCE + SAVED * WORD,
+        frame: line_frame(body),
         items: List::new(items),
         calls: called(alloc, body)?,
     })
