@@ -8,7 +8,8 @@ use Rattle.mid_code.specs.declared.code.MidCode.{MidCode}
 use Rattle.open_law.specs.Homes.{Home}
 use Rattle.msp_select.specs.Laid.{AreMarked, part_at, parts}
 use Rattle.msp_select.specs.Select.{Part, items_of as items_of_parts}
-use Rattle.compiled_image.specs.Table.{AreInOrder, TablesAreMarked, silent_in, silent_of, table_of}
+use Rattle.msp_layout.specs.Order.{AreInOrder}
+use Rattle.compiled_image.specs.Table.{TablesAreMarked, silent_in, silent_of, table_of}
 
 abbrev Rises : List Part → (ℕ → ℕ) → Type 0
 Rises ps place = (k : ℕ) → k < length ps → place k ≤ place (suc k)

@@ -5,13 +5,12 @@ use Rattle.nm_base.specs.declared.action.Action.TheVariants as action
 use Rattle.msp_isa.specs.Image.{image_map}
 use Rattle.core_meaning.specs.Source.{Source}
 use Rattle.mote_devices.specs.declared.state.BoardState.{BoardState}
+use Rattle.mote_devices.specs.WordBoards.{AreWordRows, IsWordBoard, IsWordGiven}
 use Rattle.mote_devices.specs.declared.shown.Due.{Due}
 use Rattle.mote_bus.specs.Mote.{mote}
 use Rattle.msp_select.specs.AtomicRow.{code}
 use Rattle.preempt_core.specs.Allowed.{Allowed}
 use Rattle.preempt_core.specs.ConstantWrites.{vectors_at}
-use Rattle.preempt_bodies.specs.Bodies.{AreWordRows}
-use Rattle.preempt_bodies.specs.WordBoards.{IsWordBoard, IsWordGiven}
 use Rattle.compiled_image.specs.Compiled.{source_of}
 
 -- function 0 is the boot body and the handler of every line

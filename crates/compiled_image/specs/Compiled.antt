@@ -4,6 +4,7 @@ use Rattle.std.specs.Prelude.{◌≡◌, ℕ, ◌+◌, ◌-◌, ◌*◌, ◌<◌
 use Rattle.std.specs.Option.{option_map}
 use Rattle.nm_base.specs.declared.action.Action.{Action}
 use Rattle.mote_devices.specs.declared.state.BoardState.{BoardState}
+use Rattle.mote_devices.specs.WordBoards.{AreWordRows, IsWordBoard, IsWordGiven}
 use Rattle.mote_devices.specs.declared.shown.Due.{Due}
 use Rattle.core_meaning.specs.Source.{Source}
 use Rattle.msp_isa.specs.Stands.{AreAt, word_in}
@@ -14,8 +15,7 @@ use Rattle.open_law.specs.Body.{acts}
 use Rattle.open_law.specs.Homes.{Home}
 use Rattle.mote_bus.specs.Mote.{mote}
 use Rattle.preempt_core.specs.Allowed.{Allowed}
-use Rattle.preempt_bodies.specs.Bodies.{Sizes, IsLine, AreWordRows, reset_code, stack_of}
-use Rattle.preempt_bodies.specs.WordBoards.{IsWordBoard, IsWordGiven}
+use Rattle.preempt_bodies.specs.Bodies.{Sizes, IsLine, reset_code, stack_of}
 use Rattle.msp_select.specs.Sound.{IsSelected, body_of}
 use Rattle.msp_select.specs.Weight.{IsWeighed, entry_size}
 

@@ -1,6 +1,7 @@
 -- Functions as selection writes them and the pieces, laid out together (own).
 use Rattle.std.specs.Prelude.{◌≡◌, ℕ, ◌+◌, ◌*◌, ◌<◌, ◌≤◌, List, length, Option}
 use Rattle.mote_devices.specs.declared.state.BoardState.{BoardState}
+use Rattle.mote_devices.specs.WordBoards.{AreWordRows, IsWordBoard, IsWordGiven}
 use Rattle.mote_devices.specs.declared.shown.Due.{Due}
 use Rattle.msp_isa.specs.declared.code.CodeFn.{CodeFn}
 use Rattle.msp_isa.specs.Stands.{IsLaid, items_of, word_in}
@@ -14,10 +15,10 @@ use Rattle.msp_select.specs.Laid.{parts, start_of}
 use Rattle.msp_select.specs.Select.{items_of as items_of_parts}
 use Rattle.msp_select.specs.Sound.{IsStanding}
 use Rattle.preempt_core.specs.Allowed.{Allowed}
-use Rattle.preempt_bodies.specs.Bodies.{Sizes, AreWordRows, stack_of}
-use Rattle.preempt_bodies.specs.WordBoards.{IsWordBoard, IsWordGiven}
+use Rattle.preempt_bodies.specs.Bodies.{Sizes, stack_of}
 use Rattle.compiled_image.specs.Compiled.{Chosen, IsHandled, IsRoot, source_of}
-use Rattle.compiled_image.specs.Table.{AreInOrder, table_of}
+use Rattle.compiled_image.specs.Table.{table_of}
+use Rattle.msp_layout.specs.Order.{AreInOrder}
 
 module _ (c : MidCode) (homes : ℕ → ℕ → Home) (own deep : ℕ → ℕ) (image : ℕ → ℕ) (z : Sizes) (code : List CodeFn) (entries : ℕ → ℕ) (laid : IsLaid image code entries) where
   -- the functions of the middle code come first, each instruction where its first part was laid; the table is theirs

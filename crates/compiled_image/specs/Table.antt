@@ -4,6 +4,7 @@ use Rattle.nm_base.specs.declared.action.Action.{Action}
 use Rattle.msp_isa.specs.declared.code.CodeFn.{CodeFn}
 use Rattle.msp_isa.specs.Stands.{items_of}
 use Rattle.mid_code.specs.declared.code.MidCode.{MidCode}
+use Rattle.msp_layout.specs.Order.{AreInOrder}
 use Rattle.open_law.specs.Homes.{Home}
 use Rattle.msp_select.specs.Laid.{AreMarked, parts}
 use Rattle.msp_select.specs.Select.{Part, items_of as items_of_parts}
@@ -24,11 +25,6 @@ silent_of fns places (suc f) a =
 -- those of all functions of middle code
 abbrev pub table_of : MidCode → (homes : ℕ → ℕ → Home) → (own : ℕ → ℕ) → (places : ℕ → ℕ → ℕ) → ℕ → List Action
 table_of c homes own places = silent_of (parts c homes own) places (length c.fns)
-
--- items stand one behind another, and so do functions
-pub record AreInOrder (out : List CodeFn) (places : ℕ → ℕ → ℕ) : Type 0 where
-  pub items : (f k : ℕ) → f < length out → k < length (items_of out f) → places f k ≤ places f (suc k)
-  pub functions : (f : ℕ) → suc f < length out → places f (length (items_of out f)) ≤ places (suc f) 0
 
 -- The table is that of the parts, and code behind the functions has no silent actions
 abbrev pub TablesAreMarked : Type 0

@@ -2,6 +2,7 @@
 use Rattle.std.proofs.Common.{◌≡◌, ℕ, ◌==◌, Bool, true, false, not, cond, List, [], ◌∷◌, ◌++◌, refl, sym, ap, ◌∙◌, arith, append_assoc, append-nil}
 use Rattle.nm_base.specs.Lists.{number_of}
 use Rattle.mote_devices.specs.declared.state.BoardState.{BoardState}
+use Rattle.mote_devices.specs.WordBoards.{AreWordRows}
 use Rattle.mote_devices.specs.declared.shown.Due.{Due}
 use Rattle.mote_devices.specs.declared.shown.Given.{Given}
 use Rattle.mote_devices.specs.declared.shown.Shown.TheVariants as shown
@@ -15,7 +16,6 @@ use Rattle.mote_bus.specs.Mote.{due_at}
 use Rattle.preempt_core.specs.Law.{is_waiting, waiting_effects}
 use Rattle.preempt_core.proofs.Arrivals.{arrivals, board_due}
 use Rattle.preempt_bodies.specs.Boards.{AnswersWords}
-use Rattle.preempt_bodies.specs.Bodies.{AreWordRows}
 
 -- the same, with another board
 abbrev pub on_board : State → BoardState → State

@@ -4,6 +4,7 @@ use Rattle.std.specs.Prelude.{min, IsNone}
 use Rattle.std.proofs.Math.Nat.{le-min}
 use Rattle.nm_base.specs.declared.action.Action.{Action}
 use Rattle.mote_devices.specs.declared.state.BoardState.{BoardState}
+use Rattle.mote_devices.specs.WordBoards.{AreWordRows, IsWordBoard, IsWordGiven}
 use Rattle.mote_devices.specs.declared.shown.Due.{Due}
 use Rattle.mote_devices.specs.declared.shown.Given.{Given}
 use Rattle.mote_devices.specs.Board.{line_of, with_closed_mask}
@@ -29,10 +30,9 @@ use Rattle.preempt_bodies.proofs.Stretches.{outside_back}
 use Rattle.preempt_core.proofs.Waiting.{waiting-append}
 use Rattle.open_law.specs.Open.{is_within}
 use Rattle.preempt_bodies.specs.Boards.{AnswersWords}
-use Rattle.preempt_bodies.specs.Bodies.{Sizes, AreWordRows, stack_of}
+use Rattle.preempt_bodies.specs.Bodies.{Sizes, stack_of}
 use Rattle.preempt_bodies.proofs.Words.{IsSpelled, RunsOn, spelled}
 use Rattle.preempt_bodies.specs.Runs.{RunsAsSource}
-use Rattle.preempt_bodies.specs.WordBoards.{IsWordBoard, IsWordGiven}
 use Rattle.preempt_bodies.proofs.WordBoards.{answers_words}
 use Rattle.preempt_bodies.proofs.Given.{on_board, arrived, legal_arrivals, outside_after, due_is, arrivals_count, words_due}
 use Rattle.preempt_bodies.proofs.Carry.{ops, stands, IsCommon}

@@ -6,6 +6,7 @@ use Rattle.msp_isa.specs.declared.instr.Instr.{Instr}
 use Rattle.msp_isa.specs.Stands.{word_in, IsAt, AreAt}
 use Rattle.msp_isa.specs.Encode.{encoded}
 use Rattle.mote_devices.specs.declared.state.BoardState.{BoardState}
+use Rattle.mote_devices.specs.WordBoards.{AreWordRows}
 use Rattle.mote_devices.specs.declared.shown.Due.{Due}
 use Rattle.mote_devices.specs.declared.shown.Given.{Given}
 use Rattle.mote_devices.specs.Board.{with_closed_mask}
@@ -17,7 +18,7 @@ use Rattle.open_law.specs.Open.{AreAll, IsGated, IsShut}
 use Rattle.open_law.specs.Body.{IsBodyLaw, StartsOpen, StartsShut}
 use Rattle.code_pieces.specs.Pieces.{entry, exit}
 use Rattle.preempt_bodies.specs.Boards.{AnswersWords}
-use Rattle.preempt_bodies.specs.Bodies.{call, IsLine, Serves, Sizes, stack_of, IsVector, IsBuilt, AreWordRows}
+use Rattle.preempt_bodies.specs.Bodies.{call, IsLine, Serves, Sizes, stack_of, IsVector, IsBuilt}
 
 -- the word w stands in the image at this address
 pub record StandsAt (image : ℕ → ℕ) (a w : ℕ) : Type 0 where

@@ -1,11 +1,8 @@
 -- An image of bodies that meet the open law, with the code of reset, sleep and handlers round them (own).
 use Rattle.std.specs.Prelude.{[], ◌∷◌, ◌++◌, ◌≡◌, ℕ, ◌+◌, ◌-◌, ◌*◌, ◌<◌, ◌≤◌, false, negsuc, if◌then◌else◌, List, Option, Some, None}
-use Rattle.std.specs.List.{AllByRecursion}
 use Rattle.nm_base.specs.Lists.{bit}
 use Rattle.nm_base.specs.declared.action.Action.{Action}
 use Rattle.nm_base.specs.Behaviour.{Performed}
-use Rattle.mote_devices.specs.declared.shown.Due.{Due}
-use Rattle.mote_devices.specs.declared.shown.Given.{Given}
 use Rattle.core_meaning.specs.Source.{Source, act_of}
 use Rattle.msp_isa.specs.declared.instr.Cond.TheVariants.{Jmp}
 use Rattle.msp_isa.specs.declared.instr.Instr.{Instr}
@@ -102,7 +99,3 @@ pub record IsBuilt (P : Source) (image : ℕ → ℕ) (marks : ℕ → List Acti
   pub low_boot : z.boot < 0x10000
   pub body : IsBodyLaw image z.data_end marks IsGated (P.act P.boot) z.boot z.boot_depth z.bound StartsOpen
   pub handlers : (v : ℕ) → v < 8 → IsVector P image marks z v
-
--- rows whose given events are words
-abbrev pub AreWordRows : (Given → Type 0) → List Due → Type 0
-AreWordRows IsWord rows = AllByRecursion (λ (row : Due). IsWord row.given) rows

@@ -3,14 +3,13 @@ use Rattle.std.specs.Prelude.{ℕ, ◌+◌, ◌≤◌, List, [], ◌∷◌, Some
 use Rattle.msp_isa.specs.Image.{image_map}
 use Rattle.core_meaning.specs.Source.{Source}
 use Rattle.mote_devices.specs.declared.state.BoardState.{BoardState}
+use Rattle.mote_devices.specs.WordBoards.{AreWordRows, IsWordBoard, IsWordGiven}
 use Rattle.mote_devices.specs.declared.shown.Due.{Due}
 use Rattle.mote_bus.specs.Mote.{mote}
 use Rattle.open_law.specs.Body.{acts}
 use Rattle.open_law.specs.Laws.{nothing}
 use Rattle.preempt_core.specs.Allowed.{Allowed}
 use Rattle.preempt_core.specs.ConstantWrites.{vectors_at}
-use Rattle.preempt_bodies.specs.WordBoards.{IsWordBoard, IsWordGiven}
-use Rattle.preempt_bodies.specs.Bodies.{AreWordRows}
 
 -- body 0 does nothing. It is the boot body and the handler of every line
 abbrev pub idle_source : Source

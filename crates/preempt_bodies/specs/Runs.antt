@@ -3,6 +3,7 @@ use Rattle.std.specs.Prelude.{◌≡◌, ℕ, ◌+◌, ◌≤◌, false, List, �
 use Rattle.nm_base.specs.declared.action.Action.{Action}
 use Rattle.nm_base.specs.Behaviour.{Performed}
 use Rattle.mote_devices.specs.declared.state.BoardState.{BoardState}
+use Rattle.mote_devices.specs.WordBoards.{AreWordRows, IsWordBoard, IsWordGiven}
 use Rattle.mote_devices.specs.declared.shown.Due.{Due}
 use Rattle.core_meaning.specs.Source.{Source}
 use Rattle.run_meaning.specs.declared.Move.{Move}
@@ -11,8 +12,7 @@ use Rattle.run_meaning.specs.State.{is_inside}
 use Rattle.run_meaning.specs.Runs.{IsRun}
 use Rattle.mote_bus.specs.Mote.{mote}
 use Rattle.preempt_core.specs.Allowed.{Allowed, state_after}
-use Rattle.preempt_bodies.specs.Bodies.{Sizes, IsBuilt, IsHandlerLaw, IsLine, Serves, AreWordRows, stack_of}
-use Rattle.preempt_bodies.specs.WordBoards.{IsWordBoard, IsWordGiven}
+use Rattle.preempt_bodies.specs.Bodies.{Sizes, IsBuilt, IsHandlerLaw, IsLine, Serves, stack_of}
 
 -- Survival: entry, a body or nothing, and exit leave what they interrupt as it was. They take 26 bytes of stack and 28 instructions more
 -- than the body
