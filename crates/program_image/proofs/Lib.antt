@@ -2,7 +2,9 @@ pub mod Answered
 pub mod Behaving
 pub mod Roots
 pub mod Entries
+pub mod Kept
 pub mod Selected
 pub mod Whole
 pub mod Vectors
+pub mod Checks
 pub mod Ordered

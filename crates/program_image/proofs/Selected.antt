@@ -1,7 +1,8 @@
 -- The functions of a program's boot body and handlers meet selection's premises.
 use Rattle.std.proofs.Common.{◌≡◌, ◌⊎◌, ℕ, zero, suc, ◌+◌, ◌-◌, ◌*◌, ◌/◌, ◌%◌, ◌<◌, ◌≤◌, Bool, true, false, cond, nat_lt, List, [], length, Option, Some, None, All, refl, sym, ap, subst, ◌∙◌, arith}
 use mathlib.Core.Logic.{inl, inr}
-use Rattle.std.specs.Prelude.{slice_get}
+use Rattle.std.specs.Prelude.{slice_get, slice_index_or}
+use Rattle.std.proofs.lemmas.Option.{slice_get-get_or}
 use Rattle.std.proofs.lemmas.Bool.{cases_lt, ne_eqb}
 use Rattle.std.proofs.lemmas.Bool.Decides.{nat_tests}
 use Rattle.std.proofs.Math.ListN.{get_or-eq_default}
@@ -12,6 +13,7 @@ use Rattle.nesc_core.specs.WellFormed.{BeginsContext}
 use Rattle.msp_isa.specs.declared.code.CodeFn.{CodeFn}
 use Rattle.msp_isa.specs.Stands.{items_of}
 use Rattle.msp430_cpu.specs.Cpu.{even}
+use Rattle.mid_code.specs.declared.code.Check.{Check}
 use Rattle.mid_code.specs.declared.code.MidCode.{MidCode}
 use Rattle.mid_code.specs.declared.code.MidFn.{MidFn}
 use Rattle.mid_code.specs.declared.instr.Mid.{Mid}
@@ -39,10 +41,14 @@ use Rattle.msp_runtime.specs.Laws.{IsUnmarked}
 use Rattle.msp_runtime.specs.Routines.{code_at}
 use Rattle.msp_runtime.proofs.Numbers.{routines_are_routines}
 use Rattle.msp_runtime.proofs.Short.{routines_are_short}
+use Rattle.msp_checks.specs.Checks.{IsOfWords, check_items, check_most}
+use Rattle.msp_checks.proofs.Laid.{checks_are_routines}
 use Rattle.compiled_image.proofs.Table.{tables_are_marked}
 use Rattle.program_image.specs.Image.{IsProgramImage, functions_of, homes_of, marks_of}
 use Rattle.program_image.specs.Runs.{IsBuiltOf, IsSelectedRoot, LoweredCodeIsSelected}
+use Rattle.program_image.proofs.Checks.{check_begins, check_fits, check_place}
 use Rattle.program_image.proofs.Entries.{entry_is, function_begins, routine_begins}
+use Rattle.program_image.proofs.Kept.{IsKept, KeptLaws, is_kept}
 use Rattle.program_image.proofs.Roots.{element, root_body, root_params, root_there}
 
 -- ---- routines
@@ -62,7 +68,7 @@ no_type : (n : ℕ) → 6 ≤ n → type_at n ≡ None
 no_type n le = rw (ne_eqb n 0 (λ e. omega (arith, e, le)), ne_eqb n 1 (λ e. omega (arith, e, le)), ne_eqb n 2 (λ e. omega (arith, e, le)), ne_eqb n 3 (λ e. omega (arith, e, le)), ne_eqb n 4 (λ e. omega (arith, e, le)), ne_eqb n 5 (λ e. omega (arith, e, le))) refl
 
 -- an operation that fits is one of 48
-operation_there : (h ins outs : ℕ) → OperationFits (type_at (h / 8)) (operation_at (h % 8)) ins outs → h < 48
+pub operation_there : (h ins outs : ℕ) → OperationFits (type_at (h / 8)) (operation_at (h % 8)) ins outs → h < 48
 operation_there h ins outs k = by_size (cases_lt (h / 8) 6)
   where
     none : OperationFits None (operation_at (h % 8)) ins outs → ⊥
@@ -75,6 +81,10 @@ operation_there h ins outs k = by_size (cases_lt (h / 8) 6)
 at_least : (h : ℕ) → nat_lt h first_check ≡ false → first_check + (h - first_check) ≡ h
 at_least h e = let le : first_check ≤ h = grind (arith, nat_tests) in omega (arith, le)
 
+-- behind all checks
+no_check : Check
+no_check = record { size = 0; runs = [] }
+
 -- ---- instructions
 
 selectable_one : (frame : ℕ) (i : Mid) → IsSound frame i → ((k v : ℕ) → i ≡ Post k v → ⊥) → IsSelectable i
@@ -83,7 +93,7 @@ selectable_one frame (Fault c) s none = s
 selectable_one frame (Post k v) s none = none k v refl
 selectable_one frame i s none = tt
 
-module _ (p : Program) (deep : ℕ → ℕ) (image : ℕ → ℕ) (data_end handler_depth : ℕ) (code : List CodeFn) (entries : ℕ → ℕ) (built : IsBuiltOf p deep image data_end handler_depth code entries) where
+module _ (p : Program) (deep : ℕ → ℕ) (image : ℕ → ℕ) (data_end handler_depth : ℕ) (code : List CodeFn) (entries : ℕ → ℕ) (built : IsBuiltOf p deep image data_end handler_depth code entries) (kept : IsKept p data_end) where
   abbrev c : MidCode
   c = lowered p
 
@@ -114,7 +124,7 @@ module _ (p : Program) (deep : ℕ → ℕ) (image : ℕ → ℕ) (data_end hand
   functions_few = let m = h.many in omega (arith, m)
 
   pub marked : AreMarked c homes own marks at_places × ((g a : ℕ) → functions_of p ≤ g → g < length code → at_places g 0 ≤ a → marks a ≡ [])
-  marked = tables_are_marked c homes own code at_places functions_few h.functions built.owed.order
+  marked = tables_are_marked c homes own code at_places functions_few h.functions built.order
 
   function_entry : (f : ℕ) → f < functions_of p → (even (entries f) ≡ entries f) × (entries f < 0x10000)
   function_entry f lt = let m = h.many in entry_is image code entries built.laid f _ (omega (arith, m, lt)) (h.functions f lt) (function_begins p built.well f lt)
@@ -132,7 +142,7 @@ module _ (p : Program) (deep : ℕ → ℕ) (image : ℕ → ℕ) (data_end hand
 
   rising : (f : ℕ) → f < length code → (k : ℕ) → k ≤ length (items_of code f) → at_places f 0 ≤ at_places f k
   rising f lt zero le = omega arith
-  rising f lt (suc k) le = let a = rising f lt k (omega (arith, le)) in let b = built.owed.order.items f k lt (omega (arith, le)) in omega (arith, a, b)
+  rising f lt (suc k) le = let a = rising f lt k (omega (arith, le)) in let b = built.order.items f k lt (omega (arith, le)) in omega (arith, a, b)
 
   unmarked : (f : ℕ) → functions_of p ≤ f → f < length code → IsUnmarked marks (at_places f) (length (items_of code f))
   unmarked f behind lt k a few low high = marked.1 f a behind lt (let r = rising f lt k (omega (arith, few)) in omega (arith, r, low))
@@ -147,6 +157,19 @@ module _ (p : Program) (deep : ℕ → ℕ) (image : ℕ → ℕ) (data_end hand
       longer _ _ image data_end marks (entries f) (weight (code_at n) + 2) (help_bound p) (omega (arith, is))
       (routines_are_routines c image data_end marks entries code built.laid f n few h.low_end lt (h.operations n few) (unmarked f (omega arith) lt) entry.0 entry.1)
 
+  check : (k : ℕ) → k < length c.checks → IsRoutine c image data_end marks (first_check + k) (entries (routine_of (functions_of p) (first_check + k))) (help_bound p)
+  check k few =
+      let own : Check = slice_index_or c.checks k no_check in
+      let is : slice_get c.checks k ≡ Some own = slice_get-get_or c.checks k no_check few in
+      let f : ℕ = functions_of p + (48 + k) in
+      let m = h.many in
+      let lt : f < length code = omega (arith, m, few) in
+      let entry = entry_is image code entries built.laid f (check_items own) lt (h.checks k own is) (check_begins own) in
+      let place : f ≡ routine_of (functions_of p) (first_check + k) = check_place (functions_of p) k in
+      subst (λ g. IsRoutine c image data_end marks (first_check + k) (entries g) (help_bound p)) place
+      (longer _ _ image data_end marks (entries f) (check_most own) (help_bound p) (check_fits p k own is)
+      (checks_are_routines c k own image data_end marks entries code built.laid f is (element IsOfWords c.checks k own h.of_words is) h.low_end lt (h.checks k own is) (unmarked f (omega arith) lt) entry.0 entry.1))
+
   routine : (n ins outs : ℕ) → HelpFits (length c.checks) n ins outs → IsRoutine c image data_end marks n (entries (routine_of (functions_of p) n)) (help_bound p)
   routine n ins outs fits = by_kind (nat_lt n first_check) refl fits
     where
@@ -155,7 +178,7 @@ module _ (p : Program) (deep : ℕ → ℕ) (image : ℕ → ℕ) (data_end hand
           let same : functions_of p + n ≡ routine_of (functions_of p) n = ap (λ t. cond t (functions_of p + n) (functions_of p + 48 + (n - first_check))) (sym e) in
           subst (λ f. IsRoutine c image data_end marks n (entries f) (help_bound p)) same (operation n (operation_there n ins outs k))
       by_kind false e k =
-          subst (λ m. IsRoutine c image data_end marks m (entries (routine_of (functions_of p) m)) (help_bound p)) (at_least n e) (built.owed.checks (n - first_check) k.0)
+          subst (λ m. IsRoutine c image data_end marks m (entries (routine_of (functions_of p) m)) (help_bound p)) (at_least n e) (check (n - first_check) k.0)
 
   routines : (f at n : ℕ) (ins outs : List ℕ) → slice_get (fn_of c f).code at ≡ Some (Help n ins outs) → IsRoutine c image data_end marks n (entries (routine_of (length c.fns) n)) (help_bound p)
   routines f at n ins outs e = routine n (length ins) (length outs) (element (FitsProgram c form.gives f) (fn_of c f).code at (Help n ins outs) (form.fits f) e)
@@ -175,7 +198,7 @@ module _ (p : Program) (deep : ℕ → ℕ) (image : ℕ → ℕ) (data_end hand
   selectable : (f at : ℕ) (i : Mid) → slice_get (fn_of c f).code at ≡ Some i → IsSelectable i
   selectable f at i e =
       let sound : All (IsSound (fn_of c f).frame) (fn_of c f).code = All-get_or (λ (fn : MidFn). All (IsSound fn.frame) fn.code) c.fns f no_fn (inside f at i e) (are_sound p built.well) in
-      selectable_one (fn_of c f).frame i (element (IsSound (fn_of c f).frame) (fn_of c f).code at i sound e) (λ k v same. built.owed.no_post f at k v (e ∙ ap Some same))
+      selectable_one (fn_of c f).frame i (element (IsSound (fn_of c f).frame) (fn_of c f).code at i sound e) (λ k v same. kept.no_post f at k v (e ∙ ap Some same))
 
   little : (f : ℕ) → f < functions_of p → own f + 2 * count_pushed (fn_of c f).params ≤ 10241
   little f lt =
@@ -190,14 +213,14 @@ module _ (p : Program) (deep : ℕ → ℕ) (image : ℕ → ℕ) (data_end hand
         gives = form.gives root;
         selected = record {
           form = form;
-          keeps = built.owed.keeps;
+          keeps = kept.keeps;
           selectable = selectable;
           framed = λ f lt. frames_fit c deep f;
           depths = h.depths;
           standing = standing;
           most_help = help_bound p;
           routines = routines;
-          objects = built.owed.objects root context;
+          objects = kept.objects root context;
           paced = code_is_paced p built.well built.measured root;
           is = root_there p root body;
           params = root_params p root body;
@@ -211,5 +234,9 @@ module _ (p : Program) (deep : ℕ → ℕ) (image : ℕ → ℕ) (data_end hand
         help = omega arith;
       }
 
-pub lowered_code_is_selected : LoweredCodeIsSelected
-lowered_code_is_selected p deep image data_end handler_depth code entries built root context = is_selected p deep image data_end handler_depth code entries built root context
+pub kept_of : KeptLaws → (p : Program) (deep : ℕ → ℕ) (image : ℕ → ℕ) (data_end handler_depth : ℕ) (code : List CodeFn) (entries : ℕ → ℕ) → IsBuiltOf p deep image data_end handler_depth code entries → IsKept p data_end
+kept_of laws p deep image data_end handler_depth code entries built = is_kept laws p data_end built.well built.ranked built.no_tasks built.stands.objects
+
+pub lowered_code_is_selected : KeptLaws → LoweredCodeIsSelected
+lowered_code_is_selected laws p deep image data_end handler_depth code entries built root context =
+    is_selected p deep image data_end handler_depth code entries built (kept_of laws p deep image data_end handler_depth code entries built) root context

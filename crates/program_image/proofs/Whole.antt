@@ -28,7 +28,8 @@ use Rattle.program_image.specs.Image.{IsProgramImage, homes_of, marks_of, sizes_
 use Rattle.program_image.specs.Runs.{IsBuiltOf, ProgramImagesRun, RootsMeetTheirLaws}
 use Rattle.program_image.proofs.Behaving.{behaviour_keeps_laws}
 use Rattle.program_image.proofs.Roots.{handler_begins, root_body, root_there}
-use Rattle.program_image.proofs.Selected.{even_function, is_selected, marked, small_function}
+use Rattle.program_image.proofs.Kept.{IsKept, KeptLaws}
+use Rattle.program_image.proofs.Selected.{even_function, is_selected, kept_of, marked, small_function}
 
 -- half of the pace, which leaves room for the code around bodies
 half_and_more : (between pace : ℕ) → between + 400000 ≤ pace / 2 → pace / 2 + 3 ≤ pace
@@ -37,7 +38,7 @@ half_and_more between pace le = omega (arith, le)
 within : (between half : ℕ) → between + 400000 ≤ half → between ≤ half - 28
 within between half le = omega (arith, le)
 
-module _ (p : Program) (deep : ℕ → ℕ) (image : ℕ → ℕ) (data_end handler_depth : ℕ) (code : List CodeFn) (entries : ℕ → ℕ) (built : IsBuiltOf p deep image data_end handler_depth code entries) where
+module _ (p : Program) (deep : ℕ → ℕ) (image : ℕ → ℕ) (data_end handler_depth : ℕ) (code : List CodeFn) (entries : ℕ → ℕ) (built : IsBuiltOf p deep image data_end handler_depth code entries) (kept : IsKept p data_end) where
   abbrev P : Source
   P = source_of p
 
@@ -59,7 +60,7 @@ module _ (p : Program) (deep : ℕ → ℕ) (image : ℕ → ℕ) (data_end hand
   -- selected code, with the room that it leaves
   selected_law : (root : ℕ) → BeginsContext p root → IsOpenBody image data_end marks (acts (target (lowered p) root)) (entries root) (deep root) (between_actions p root) × (between_actions p root + 400000 ≤ half)
   selected_law root context =
-      let s = is_selected p deep image data_end handler_depth code entries built root context in
+      let s = is_selected p deep image data_end handler_depth code entries built kept root context in
       let k = code_keeps_pace p built.well built.measured deep (silent_size (lowered p) (λ i. 1) (heaviest_of p)) (heaviest_of p) (longest_of p) root s.gives data_end image marks entries (λ f at. at_places f (start_of (lowered p) (homes_of p) (own_of p) f at)) s.selected s.help in
       (functions_are_bodies image data_end marks s.gives (body_of (lowered p) root) (entries root) (deep root) (between_actions p root) k.0, k.1)
 
@@ -79,8 +80,8 @@ module _ (p : Program) (deep : ℕ → ℕ) (image : ℕ → ℕ) (data_end hand
       let there = root_there p f (root_body p built.well f context) in
       let le = h.handlers v f e in
       let long = within (between_actions p f) half (selected_law f context).1 in (
-        small_function p deep image data_end handler_depth code entries built f there,
-        even_function p deep image data_end handler_depth code entries built f there,
+        small_function p deep image data_end handler_depth code entries built kept f there,
+        even_function p deep image data_end handler_depth code entries built kept f there,
         (wider_is_met image data_end marks (P.act f) (entries f) (deep f) (handler_depth - 26) (between_actions p f) (half - 28) (omega (arith, le)) long (root_law f context)).1,
       )
 
@@ -100,7 +101,7 @@ module _ (p : Program) (deep : ℕ → ℕ) (image : ℕ → ℕ) (data_end hand
         is = l.is;
         items = l.items;
         vector = l.vector;
-        no_marks = λ a low high. (marked p deep image data_end handler_depth code entries built).1 l.f a l.behind l.is (subst (λ x. x ≤ a) (sym (built.laid.entry l.f l.is)) low);
+        no_marks = λ a low high. (marked p deep image data_end handler_depth code entries built kept).1 l.f a l.behind l.is (subst (λ x. x ≤ a) (sym (built.laid.entry l.f l.is)) low);
         depth = handler_depth - 26;
         bound = half - 28;
         some = one_left half half_large;
@@ -129,8 +130,8 @@ module _ (p : Program) (deep : ℕ → ℕ) (image : ℕ → ℕ) (data_end hand
         items = h.reset_items;
         vector = h.vector;
         boot_at = refl;
-        even_boot = even_function p deep image data_end handler_depth code entries built p.boot there;
-        low_boot = small_function p deep image data_end handler_depth code entries built p.boot there;
+        even_boot = even_function p deep image data_end handler_depth code entries built kept p.boot there;
+        low_boot = small_function p deep image data_end handler_depth code entries built kept p.boot there;
         body = (wider_is_met image data_end marks (P.act p.boot) (entries p.boot) (deep p.boot) (deep p.boot) (between_actions p p.boot) half (omega arith)
             (all_within (between_actions p p.boot) half (selected_law p.boot (boots refl)).1) (root_law p.boot (boots refl))).0;
         lines = line;
@@ -145,11 +146,13 @@ module _ (p : Program) (deep : ℕ → ℕ) (image : ℕ → ℕ) (data_end hand
   pub enough : half + 3 ≤ pace_of_program p
   enough = half_and_more (between_actions p p.boot) (pace_of_program p) (selected_law p.boot (boots refl)).1
 
-pub roots_meet_their_laws : RootsMeetTheirLaws
-roots_meet_their_laws p deep image data_end handler_depth code entries built root context = root_law p deep image data_end handler_depth code entries built root context
+pub roots_meet_their_laws : KeptLaws → RootsMeetTheirLaws
+roots_meet_their_laws laws p deep image data_end handler_depth code entries built root context =
+    root_law p deep image data_end handler_depth code entries built (kept_of laws p deep image data_end handler_depth code entries built) root context
 
-pub program_images_run : ProgramImagesRun
-program_images_run p deep image data_end handler_depth code entries b rows n built words word_rows =
+pub program_images_run : KeptLaws → ProgramImagesRun
+program_images_run laws p deep image data_end handler_depth code entries b rows n built words word_rows =
+    let kept = kept_of laws p deep image data_end handler_depth code entries built in
     runs_as_source (source_of p) image (marks_of p built.laid.places) (sizes_of p deep data_end handler_depth entries) b rows (pace_of_program p) n words word_rows
-    (laid_images_are_built (source_of p) image (marks_of p built.laid.places) (sizes_of p deep data_end handler_depth entries) code entries built.laid (laid_out p deep image data_end handler_depth code entries built))
-    (enough p deep image data_end handler_depth code entries built)
+    (laid_images_are_built (source_of p) image (marks_of p built.laid.places) (sizes_of p deep data_end handler_depth entries) code entries built.laid (laid_out p deep image data_end handler_depth code entries built kept))
+    (enough p deep image data_end handler_depth code entries built kept)

@@ -1,13 +1,14 @@
 -- What stands in a program's image, in order: the functions of its bodies, the routines of 48 operations and of its checks, and behind
 -- them the code of reset and of the lines (own).
-use Rattle.std.specs.Prelude.{◌≡◌, ℕ, ◌+◌, ◌*◌, ◌/◌, ◌<◌, ◌≤◌, List, length, Some}
+use Rattle.std.specs.Prelude.{◌≡◌, ℕ, ◌+◌, ◌*◌, ◌/◌, ◌<◌, ◌≤◌, List, length, Some, slice_get}
 use Rattle.nm_base.specs.declared.action.Action.{Action}
 use Rattle.nesc_core.specs.Plain.{Program}
-use Rattle.nesc_core.specs.Weights.{pace_of_program}
+use Rattle.nesc_core.specs.Weights.{objects_end, pace_of_program}
 use Rattle.core_meaning.specs.SourceOf.{handler_in}
 use Rattle.msp_isa.specs.declared.code.CodeFn.{CodeFn}
 use Rattle.msp_isa.specs.Stands.{items_of, word_in}
 use Rattle.msp430_cpu.specs.Cpu.{even}
+use Rattle.mid_code.specs.declared.code.Check.{Check}
 use Rattle.mid_code.specs.Machine.{fn_of}
 use Rattle.lower_stmt.specs.Bodies.{lowered}
 use Rattle.lower_pace.specs.Pace.{own_of}
@@ -19,6 +20,8 @@ use Rattle.msp_select.specs.Select.{items_of as items_of_parts}
 use Rattle.msp_select.specs.Sound.{IsDeep}
 use Rattle.msp_runtime.specs.Code.{routine_items}
 use Rattle.msp_runtime.specs.Routines.{code_at}
+use Rattle.msp_checks.specs.Checks.{check_items}
+use Rattle.msp_checks.specs.Written.{AreOfWords}
 use Rattle.preempt_bodies.specs.Bodies.{Sizes, stack_of}
 use Rattle.compiled_image.specs.Table.{table_of}
 
@@ -50,11 +53,14 @@ module _ (p : Program) (deep : ℕ → ℕ) (image : ℕ → ℕ) (data_end hand
   pub record IsProgramImage : Type 0 where
     pub functions : (f : ℕ) → f < functions_of p → items_of code f ≡ items_of_parts (parts (lowered p) (homes_of p) (own_of p) f)
     pub operations : (h : ℕ) → h < 48 → items_of code (functions_of p + h) ≡ routine_items (code_at h)
+    pub checks : (k : ℕ) (check : Check) → slice_get (lowered p).checks k ≡ Some check → items_of code (functions_of p + (48 + k)) ≡ check_items check
+    pub of_words : AreOfWords (lowered p).checks
     pub many : functions_of p + (48 + length (lowered p).checks) ≤ length code
     pub depths : (f : ℕ) → f < functions_of p → IsDeep (lowered p) (homes_of p) (own_of p) deep f
     pub least_depth : 26 ≤ handler_depth
     pub handlers : (v f : ℕ) → handler_in p.handlers v ≡ Some f → 26 + deep f ≤ handler_depth
     pub low_end : 0x1100 ≤ data_end
+    pub objects : objects_end p ≤ data_end
     pub even_end : even data_end ≡ data_end
     pub room : data_end + stack_of (sizes_of p deep data_end handler_depth entries) ≤ 0x3900
     pub reset : ℕ

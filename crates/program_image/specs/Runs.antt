@@ -1,6 +1,7 @@
 -- What is promised of a program's image (own).
-use Rattle.std.specs.Prelude.{ℕ, ◌+◌, ◌≤◌, List}
+use Rattle.std.specs.Prelude.{◌≡◌, ℕ, ◌+◌, ◌≤◌, List, []}
 use Rattle.mote_devices.specs.declared.state.BoardState.{BoardState}
+use Rattle.mote_devices.specs.WordBoards.{AreWordRows, IsWordBoard, IsWordGiven}
 use Rattle.mote_devices.specs.declared.shown.Due.{Due}
 use Rattle.nesc_core.specs.Plain.{Program}
 use Rattle.nesc_core.specs.Calls.{HasNoCycle}
@@ -9,6 +10,7 @@ use Rattle.nesc_core.specs.WellFormed.{BeginsContext, IsWellFormed}
 use Rattle.core_meaning.specs.SourceOf.{source_of}
 use Rattle.msp_isa.specs.declared.code.CodeFn.{CodeFn}
 use Rattle.msp_isa.specs.Stands.{IsLaid}
+use Rattle.msp_layout.specs.Order.{AreInOrder}
 use Rattle.mote_bus.specs.Mote.{mote}
 use Rattle.lower_stmt.specs.Bodies.{lowered}
 use Rattle.lower_form.specs.Short.{IsShort}
@@ -18,20 +20,19 @@ use Rattle.open_law.specs.Body.{IsOpenBody}
 use Rattle.msp_select.specs.Laid.{start_of}
 use Rattle.msp_select.specs.Sound.{IsSelected}
 use Rattle.preempt_core.specs.Allowed.{Allowed}
-use Rattle.preempt_bodies.specs.Bodies.{AreWordRows, stack_of}
-use Rattle.preempt_bodies.specs.WordBoards.{IsWordBoard, IsWordGiven}
+use Rattle.preempt_bodies.specs.Bodies.{stack_of}
 use Rattle.program_image.specs.Image.{IsProgramImage, homes_of, marks_of, sizes_of}
-use Rattle.program_image.specs.Owed.{IsOwed}
 
--- a well-formed program without cycles of calls, which is short and measured, and its image; what is owed stands beside it
+-- a well-formed program without cycles of calls and without tasks, which is short and measured, and its image
 pub record IsBuiltOf (p : Program) (deep : ℕ → ℕ) (image : ℕ → ℕ) (data_end handler_depth : ℕ) (code : List CodeFn) (entries : ℕ → ℕ) : Type 0 where
   pub well : IsWellFormed p
   pub ranked : HasNoCycle p
   pub short : IsShort p
   pub measured : IsMeasured p
+  pub no_tasks : p.tasks ≡ []
   pub laid : IsLaid image code entries
+  pub order : AreInOrder code laid.places
   pub stands : IsProgramImage p deep image data_end handler_depth code entries
-  pub owed : IsOwed p image data_end code entries laid.places
 
 module _ (p : Program) (deep : ℕ → ℕ) (image : ℕ → ℕ) (data_end : ℕ) (entries : ℕ → ℕ) (places : ℕ → ℕ → ℕ) where
   -- a function meets selection's premises, with routines that the pace affords

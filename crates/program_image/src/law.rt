@@ -4,6 +4,8 @@ ghost use Rattle.program_image.specs.Bodies.{BehaviourKeepsLaws};
 ghost use Rattle.program_image.specs.Order.{OrderedCodeStands};
 ghost use Rattle.program_image.specs.Runs.{LoweredCodeIsSelected, ProgramImagesRun, RootsMeetTheirLaws};
 
+use lower_keeps::{all_rules_are_kept, objects_are_touched, posts_name_tasks};
+
 /// Code that meets the open law of one body meets that of another which the first behaves as.
 pub fn behaviour_keeps_laws()
     ensures { BehaviourKeepsLaws }
@@ -12,12 +14,20 @@ pub fn behaviour_keeps_laws()
 /// In a program's image the functions of the boot body and of handlers meet selection's premises.
 pub fn lowered_code_is_selected()
     ensures { LoweredCodeIsSelected }
-{}
+{
+    all_rules_are_kept();
+    posts_name_tasks();
+    objects_are_touched();
+}
 
 /// Their code meets the open law of what the bodies do in the source, with a bound that leaves room in half of the program's pace.
 pub fn roots_meet_their_laws()
     ensures { RootsMeetTheirLaws }
-{}
+{
+    all_rules_are_kept();
+    posts_name_tasks();
+    objects_are_touched();
+}
 
 /// Functions of bodies, routines, and the code of reset and of the lines, laid out in this order, with vectors that lead to reset and to
 /// the lines, are a program's image.
@@ -29,4 +39,8 @@ pub fn ordered_code_stands()
 /// schedule of words, after every number of slots; and its stack stays within its bound.
 pub fn program_images_run()
     ensures { ProgramImagesRun }
-{}
+{
+    all_rules_are_kept();
+    posts_name_tasks();
+    objects_are_touched();
+}
