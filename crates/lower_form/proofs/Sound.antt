@@ -77,7 +77,7 @@ some_nodes (plain.atomic s) = omega arith
 some_nodes (plain.clear x) = omega arith
 some_nodes (plain.here arguments first count body) = omega arith
 
-bodies_few : (bs : List Body) → length bs ≤ sum_by body_nodes_of bs
+pub bodies_few : (bs : List Body) → length bs ≤ sum_by body_nodes_of bs
 bodies_few [] = omega arith
 bodies_few (b ∷ bs) =
     let e = sum_by-cons body_nodes_of b bs in

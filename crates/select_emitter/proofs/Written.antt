@@ -30,7 +30,7 @@ on : (xs ys : List Part) → Written xs → Written ys → Written (xs ++ ys)
 on [] ys x y = y
 on (p ∷ xs) ys x y = (x.0, on xs ys x.1 y)
 
-sp_base : IsBase 1
+pub sp_base : IsBase 1
 sp_base = (omega arith, (λ e. omega (arith, e)), (λ e. omega (arith, e)))
 
 scratch_base : IsBase 12
@@ -51,7 +51,7 @@ same n v e = by (eqb_tells n v)
     by (inl t) = t.1
     by (inr t) = absurd (let a = t.0 in let z : ⊥ = cc in z)
 
-made : (n : ℕ) → is_made n ≡ true → IsConstant n
+pub made : (n : ℕ) → is_made n ≡ true → IsConstant n
 made n e = by5 (or_cases ((n == 0) || (n == 1) || (n == 2) || (n == 4) || (n == 8)) (n == 0xFFFF) e)
   where
     by1 : ((n == 0) ≡ true) ⊎ ((n == 1) ≡ true) → IsConstant n
@@ -74,7 +74,7 @@ made n e = by5 (or_cases ((n == 0) || (n == 1) || (n == 2) || (n == 4) || (n == 
     by5 (inl t) = by4 (or_cases ((n == 0) || (n == 1) || (n == 2) || (n == 4)) (n == 8) t)
     by5 (inr t) = inr (inr (inr (same n 0xFFFF t)))
 
-literal_source : (n : ℕ) → IsSource (operand_of (literal n))
+pub literal_source : (n : ℕ) → IsSource (operand_of (literal n))
 literal_source n = by (is_made n) (made n)
   where
     by : (b : Bool) → (b ≡ true → IsConstant n) → IsSource (operand_of (cond b (Made n) (Number n)))
@@ -87,7 +87,7 @@ zero_source = inl (inl refl)
 one_source : IsConstant 1
 one_source = inl (inr refl)
 
-eight_source : IsConstant 8
+pub eight_source : IsConstant 8
 eight_source = inr (inr (inl refl))
 
 zeros_written : (n : ℕ) → Written (zeros n)
