@@ -1,0 +1,4 @@
+pub mod Objects
+pub mod Lists
+pub mod Many
+pub mod Built
