@@ -16,3 +16,4 @@ pub mod Entered
 pub mod Grown
 pub mod Tags
 pub mod Held
+pub mod Changed

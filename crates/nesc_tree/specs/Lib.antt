@@ -1,4 +1,5 @@
 pub mod Bindings
+pub mod Changes
 pub mod Choices
 pub mod Form
 pub mod Level

@@ -20,7 +20,7 @@ pub use contexts::{Jumps, Site};
 pub use declarations::{
     Attr, AttrArg, Decl, ForStart, FuncHead, FuncKind, Init, Stmt, VarGroup, Variable,
 };
-pub use names::TypeNames;
+pub use names::{Change, TypeNames};
 pub use operand::{
     Arguments, CastType, Declarators, Declared, Dims, Fields, Grouped, Inits, Item, Items, Operand,
     Qualifiers, Width,

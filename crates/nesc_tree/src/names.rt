@@ -1,6 +1,7 @@
 //! Type names, and names that hide them.
 
 ghost use Rattle.std.specs.Prelude.{◌≡◌, [], IfOk, OnErr, OnOk, false, true};
+ghost use Rattle.nesc_tree.specs.Changes.{taken_back};
 ghost use Rattle.nesc_tree.specs.Sorts.{declared, is_type};
 
 use indexmap::IndexMap;
@@ -22,6 +23,13 @@ impl Model for TypeNames {
     ghost Value = { List (List ℕ × Bool) };
 
     ghost view = { λ t. bindings t.names.entries };
+}
+
+/// What a declaration changed: the place of its name, and whether that was a type name, if it was declared before.
+#[derive(Clone, Copy, Debug)]
+pub struct Change {
+    at: usize,
+    was: Option<bool>,
 }
 
 fn copied(alloc: Global, text: &[u8]) -> Result<Vec<u8>, NoMemory>
@@ -61,6 +69,31 @@ impl TypeNames {
         ensures lent { OnErr result (self.new ≡ self.old) }
     {
         self.declare(name, false)
+    }
+
+    /// Declares the name as a type name or as none, and tells how to take that back.
+    pub fn change(&mut self, name: &Name, is_type: bool) -> Result<Change, NoMemory>
+        ensures declared { OnOk result (self.new ≡ declared name.now is_type self.old) }
+        ensures back { IfOk result (λ c. taken_back c self.new ≡ self.old) }
+        ensures lent { OnErr result (self.new ≡ self.old) }
+    {
+        let key = copied(self.alloc, name.as_bytes())?;
+        let (at, was) = self.names.insert_full(key, is_type)?;
+        Ok(Change { at, was })
+    }
+
+    /// Takes a change back; of several, the last one comes first.
+    pub fn take_back(&mut self, change: Change)
+        ensures { self.new ≡ taken_back change self.old }
+    {
+        match change.was {
+            None => self.names.truncate(change.at),
+            Some(is_type) => {
+                if let Some(flag) = self.names.get_index_mut(change.at) {
+                    *flag = is_type;
+                }
+            }
+        }
     }
 
     fn declare(&mut self, name: &Name, is_type: bool) -> Result<(), NoMemory>
