@@ -1,0 +1,4 @@
+pub mod PartLemmas
+pub mod Alike
+pub mod RowLemmas
+pub mod PathLemmas

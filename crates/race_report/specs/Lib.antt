@@ -1,0 +1,4 @@
+pub mod Parts
+pub mod Sites
+pub mod Known
+pub mod Limit
