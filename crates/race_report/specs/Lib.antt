@@ -2,3 +2,4 @@ pub mod Parts
 pub mod Sites
 pub mod Known
 pub mod Limit
+pub mod Worked

@@ -8,5 +8,7 @@ mod reporting;
 mod rows;
 mod sources;
 mod touch;
+mod worked;
 
 pub use reporting::report;
+pub use worked::worked_rows;
