@@ -1,0 +1,7 @@
+//! The text of a race report.
+#![tactic(auto)]
+
+mod names;
+mod printing;
+
+pub use printing::print_report;
