@@ -5,7 +5,7 @@ mod addresses;
 mod conversions;
 mod evaluation;
 mod literals;
-mod operators;
+pub mod operators;
 mod rows;
 #[cfg(test)]
 mod tests;

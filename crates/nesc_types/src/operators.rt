@@ -35,7 +35,8 @@ pub(crate) fn both(a: bool, b: bool) -> bool
     a && b
 }
 
-pub(crate) fn is_true(x: Constant) -> bool
+/// Whether the number counts as true.
+pub fn is_true(x: Constant) -> bool
     ensures { result ≡ spec.is_true x }
 {
     !is_zero(x.1)
@@ -126,7 +127,7 @@ fn disjunction(x: Constant, y: Constant) -> Constant
 }
 
 /// What an operator gives on two constants.
-pub(crate) fn computed(
+pub fn computed(
     whole: Pos,
     evaluated: bool,
     o: InOp,
@@ -158,7 +159,7 @@ pub(crate) fn computed(
 }
 
 /// Whether the right operand is evaluated, behind this left one.
-pub(crate) fn goes_on(o: InOp, x: Constant) -> bool
+pub fn goes_on(o: InOp, x: Constant) -> bool
     ensures { result ≡ spec.goes_on o x }
 {
     match o {
@@ -184,7 +185,7 @@ pub(crate) fn goes_on(o: InOp, x: Constant) -> bool
 }
 
 /// An operator on a promoted number.
-pub(crate) fn at_promoted(o: UnOp, x: Constant) -> Constant
+pub fn at_promoted(o: UnOp, x: Constant) -> Constant
     ensures { result ≡ spec.at_promoted o x }
 {
     let t = promoted(x.0);
@@ -192,21 +193,21 @@ pub(crate) fn at_promoted(o: UnOp, x: Constant) -> Constant
 }
 
 /// A promoted number.
-pub(crate) fn kept(x: Constant) -> Constant
+pub fn kept(x: Constant) -> Constant
     ensures { result ≡ spec.kept x }
 {
     (promoted(x.0), x.1)
 }
 
 /// Whether the number counts as false.
-pub(crate) fn negated(x: Constant) -> Constant
+pub fn negated(x: Constant) -> Constant
     ensures { result ≡ spec.negated x }
 {
     (IntType::I16, truth(is_zero(x.1)))
 }
 
 /// The second or the third operand, at the type that both have.
-pub(crate) fn chosen(x: Constant, y: Constant, z: Constant) -> Constant
+pub fn chosen(x: Constant, y: Constant, z: Constant) -> Constant
     ensures { result ≡ spec.chosen x y z }
 {
     let t = common(y.0, z.0);
@@ -260,7 +261,8 @@ pub(crate) fn cast_type(at: Pos, t: &TypeSpec) -> Result<Option<IntType>, Fault>
     plain_type(at, &t.base, t.stars, t.dims.as_slice())
 }
 
-pub(crate) fn converted(at: Pos, to: Option<IntType>, x: Constant) -> Result<Constant, Fault>
+/// A number as one of the type of a cast.
+pub fn converted(at: Pos, to: Option<IntType>, x: Constant) -> Result<Constant, Fault>
     ensures { result ≡ spec.converted at to x }
 {
     match to {
