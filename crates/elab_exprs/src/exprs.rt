@@ -1,0 +1,55 @@
+//! Expressions, constants and types as the wired program has them.
+
+ghost use Rattle.std.specs.Prelude.{◌≡◌, true};
+ghost use Rattle.nesc_core.specs.View.{type_of as core_type_of};
+ghost use Rattle.nesc_tree.specs.View.{expr_of, spec_of};
+ghost use Rattle.elab_meaning.specs.Answers.{Gives};
+ghost use Rattle.elab_meaning.specs.Wired as spec;
+ghost use Rattle.elab_meaning.specs.View.{env_of, found_of, state_of, typed_of};
+
+use crate::walk;
+use elab_forms::Told;
+use elab_meaning::{Found, Typed, Work};
+use nesc_core::CoreType;
+use nesc_tree::{Expr, TypeSpec};
+use nesc_types::{Constant, pos_of};
+use nm_base::{Fault, Pos};
+use std::alloc::Global;
+
+/// What an expression is: a place, a value or a struct assignment, with its type.
+#[tactic(auto, unfolding(crate::specs::Walk::IsFound, crate::specs::Walk::found_at))]
+pub fn found(alloc: Global, told: &Told, work: &mut Work, e: &Expr) -> Result<Found, Fault>
+    ensures { Gives found_of result (state_of work.new) (spec.found (env_of told.now.env) told.now.values (expr_of e.now) (state_of work.old)) }
+{
+    walk::found(alloc, told, work, e)
+}
+
+/// An expression as a value.
+#[tactic(auto, unfolding(crate::specs::Walk::IsValue, crate::specs::Walk::value_at))]
+pub fn value(alloc: Global, told: &Told, work: &mut Work, e: &Expr) -> Result<Typed, Fault>
+    ensures { Gives typed_of result (state_of work.new) (spec.value (env_of told.now.env) told.now.values (expr_of e.now) (state_of work.old)) }
+{
+    walk::value(alloc, told, work, e)
+}
+
+/// The type and the number of a whole constant.
+#[tactic(auto, unfolding(crate::specs::Walk::IsConstant, crate::specs::Walk::constant_at))]
+pub fn constant(alloc: Global, told: &Told, work: &mut Work, e: &Expr) -> Result<Constant, Fault>
+    ensures { Gives (λ x. x) result (state_of work.new) (spec.whole_constant (env_of told.now.env) told.now.values (expr_of e.now) (state_of work.old)) }
+{
+    walk::constant_in(alloc, told, work, e, pos_of(e), true)
+}
+
+/// The type that is written, whose declaration stands at a place.
+#[tactic(auto, unfolding(crate::specs::Walk::IsType, crate::specs::Walk::type_at))]
+pub fn type_of(
+    alloc: Global,
+    told: &Told,
+    work: &mut Work,
+    t: &TypeSpec,
+    at: Pos,
+) -> Result<CoreType, Fault>
+    ensures { Gives core_type_of result (state_of work.new) (spec.type_of (env_of told.now.env) told.now.values at (spec_of t.now) (state_of work.old)) }
+{
+    walk::type_of(alloc, told, work, t, at)
+}

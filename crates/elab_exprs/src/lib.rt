@@ -1,0 +1,8 @@
+//! The wired program of expressions, constants and types: a walk over their trees.
+#![tactic(auto)]
+
+mod exprs;
+mod walk;
+
+pub use elab_forms::Told;
+pub use exprs::{constant, found, type_of, value};
