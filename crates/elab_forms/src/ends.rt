@@ -23,13 +23,8 @@ fn in_expr(e: &Expr, before: u32) -> Result<u32, NoMemory>
         | Expr::Unique(_, _)
         | Expr::UniqueCount(_, _)
         | Expr::Post(_, _) => Ok(before),
-        Expr::Unary(_, a, _) => in_expr(a.get(), before),
-        Expr::Postfix(_, a, _) => in_expr(a.get(), before),
-        Expr::Binary(_, a, b, _) => {
-            let first = in_expr(a.get(), before)?;
-            in_expr(b.get(), first)
-        }
-        Expr::Assign(_, a, b, _) => {
+        Expr::Unary(_, a, _) | Expr::Postfix(_, a, _) => in_expr(a.get(), before),
+        Expr::Binary(_, a, b, _) | Expr::Assign(_, a, b, _) => {
             let first = in_expr(a.get(), before)?;
             in_expr(b.get(), first)
         }
@@ -38,7 +33,7 @@ fn in_expr(e: &Expr, before: u32) -> Result<u32, NoMemory>
             let second = in_expr(b.get(), first)?;
             in_expr(c.get(), second)
         }
-        Expr::Comma(a, b, _) => {
+        Expr::Comma(a, b, _) | Expr::Index(a, b, _) => {
             let first = in_expr(a.get(), before)?;
             in_expr(b.get(), first)
         }
@@ -48,12 +43,7 @@ fn in_expr(e: &Expr, before: u32) -> Result<u32, NoMemory>
         }
         Expr::SizeOfExpr(a, _) => in_expr(a.get(), before),
         Expr::SizeOfType(t, _) => in_type(t, before),
-        Expr::Index(a, b, _) => {
-            let first = in_expr(a.get(), before)?;
-            in_expr(b.get(), first)
-        }
-        Expr::Member(a, _, _) => in_expr(a.get(), before),
-        Expr::Arrow(a, _, _) => in_expr(a.get(), before),
+        Expr::Member(a, _, _) | Expr::Arrow(a, _, _) => in_expr(a.get(), before),
         Expr::CallFn(_, args, _) => in_list(args, before),
         Expr::CallItem { param, args, .. } => {
             let first = in_parameter(param, before)?;
