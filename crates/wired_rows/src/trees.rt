@@ -215,6 +215,12 @@ fn operator(alloc: Global, out: &mut Vec<u8>, e: &CoreExpr, levels: u32) -> Resu
     }
 }
 
+// A form of one number.
+fn numbered(alloc: Global, out: &mut Vec<u8>, before: &[u8], n: i64) -> Result<(), NoMemory> {
+    put_number(alloc, out, before, n)?;
+    put(out, b")")
+}
+
 /// An expression, down to so many levels.
 #[cycle(trees)]
 pub fn expr_text(
@@ -253,14 +259,8 @@ pub fn expr_text(
         }
         CoreExpr::Assign(p, a, at) => changed(alloc, out, b"(set ", p, a, *at, levels - 1),
         CoreExpr::Call(body, args, at) => call(alloc, out, *body, args.as_slice(), *at, levels - 1),
-        CoreExpr::Post(k) => {
-            put_number(alloc, out, b"(post ", i64::from(*k))?;
-            put(out, b")")
-        }
-        CoreExpr::In(port) => {
-            put_number(alloc, out, b"(in ", i64::from(*port))?;
-            put(out, b")")
-        }
+        CoreExpr::Post(k) => numbered(alloc, out, b"(post ", i64::from(*k)),
+        CoreExpr::In(port) => numbered(alloc, out, b"(in ", i64::from(*port)),
         CoreExpr::Out(port, a) => {
             put_number(alloc, out, b"(out ", i64::from(*port))?;
             one(alloc, out, b" ", a, levels - 1)
