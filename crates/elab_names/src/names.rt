@@ -15,7 +15,7 @@ use elab_values::{bad_type, converted, copied, not_constant, unknown_name, value
 use nesc_core::{CoreExpr, CoreType, Place};
 use nesc_tree::Expr;
 use nesc_types::{Constant, pos_of};
-use nm_base::{Fault, IntType, List, NoMemory, Pos, Refusal};
+use nm_base::{ENABLE, Fault, IntType, List, NoMemory, PENDING, Pos, Refusal};
 use std::alloc::Global;
 use std::collections::VecDeque;
 
@@ -236,7 +236,7 @@ pub fn posted(at: Pos, meaning: Option<&Meaning>) -> Result<Found, Fault>
 fn is_port(n: u16) -> bool
     ensures { result ≡ core_ports.is_port n }
 {
-    n == 0x0100 || n == 0x0102 || (0x0120 <= n && n <= 0x015E && n % 2 == 0)
+    n == ENABLE || n == PENDING || (0x0120 <= n && n <= 0x015E && n % 2 == 0)
 }
 
 /// A port's number.

@@ -1,5 +1,6 @@
 -- What a processor did on a bus, and what a trace shows of it (own).
 use Rattle.std.specs.Prelude.{◌%◌, ◌==◌, ◌&&◌, nat_lt, if◌then◌else◌, List, [], ◌∷◌, ◌++◌, length}
+use Rattle.nm_base.specs.declared.memory_map.TheConstants.{FAULT}
 use Rattle.mote_devices.specs.declared.shown.Shown.{Shown}
 use Rattle.mote_devices.specs.declared.shown.Shown.TheVariants.{In, Out, Fault}
 use Rattle.msp430_cpu.specs.Bus.{Bus}
@@ -32,7 +33,7 @@ abbrev pub shown_of : Access → List Shown
 shown_of (Read a wide v) = if is_port a && wide then In (even a) v ∷ [] else []
 shown_of (Write a wide v) =
     if is_port a && wide
-    then (if even a == 0x0104 then Fault (v % 256) else Out (even a) v) ∷ []
+    then (if even a == FAULT then Fault (v % 256) else Out (even a) v) ∷ []
     else []
 
 abbrev pub events_of : List Access → List Shown

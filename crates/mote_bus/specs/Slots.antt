@@ -1,6 +1,7 @@
 -- A board by the list of its devices, and what a processor does to it.
 use Rattle.std.specs.Prelude.{ℕ, ◌-◌, ◌%◌, ◌==◌, if◌then◌else◌, List, ◌++◌, map, length, replicate, Option, Some, None}
 use Rattle.std.specs.Option.{option_map}
+use Rattle.nm_base.specs.declared.memory_map.TheConstants.{FAULT}
 use Rattle.nm_base.specs.Ports.{Ports}
 use Rattle.mote_devices.specs.declared.state.DevState.{DevState}
 use Rattle.mote_devices.specs.declared.state.BoardState.{BoardState}
@@ -22,7 +23,7 @@ pub record Bare : Type 0 where
 
 abbrev pub bare_put : Bare → ℕ → ℕ → Bare
 bare_put b p v =
-    if p == 0x0104
+    if p == FAULT
     then record { board = b.board; stopped = first_code b.stopped (v % 256) }
     else record { board = board_write b.board p v; stopped = b.stopped }
 

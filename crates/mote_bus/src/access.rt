@@ -2,15 +2,12 @@
 
 ghost use Rattle.std.specs.Prelude.{◌≡◌, false};
 ghost use Rattle.std.specs.Option.{option_to_list};
-ghost use Rattle.msp430_cpu.specs.Cpu.{even};
-ghost use Rattle.msp430_cpu.specs.Memory.{is_port};
 ghost use Rattle.mote_bus.specs.Accesses.{shown_of};
 ghost use Rattle.mote_bus.specs.declared.access.Access.TheVariants.{Read};
 
 use mote_devices::Shown;
-
-/// The address that stops the mote.
-const FAULT: u16 = 0x0104;
+use msp430_cpu::{even, is_port};
+use nm_base::FAULT;
 
 /// A read or a write: the address as it was given, whether it was one of a word, and the value.
 #[derive(Clone, Copy, Debug, PartialEq, Eq)]
@@ -45,17 +42,4 @@ impl Access {
             _ => None,
         }
     }
-}
-
-fn is_port(address: u16) -> bool
-    ensures { result ≡ is_port address }
-{
-    0x0100 <= address && address < 0x0200
-}
-
-// The address with bit 0 at 0.
-fn even(address: u16) -> u16
-    ensures { result ≡ even address }
-{
-    address / 2 * 2
 }

@@ -10,14 +10,7 @@ ghost use Rattle.mote_bus.specs.Slots.{Bare, board_with, board_of, bare_ports};
 
 use crate::slot;
 use mote_devices::Device;
-use nm_base::Ports;
-
-/// The address of the interrupt mask.
-const ENABLE: u16 = 0x0100;
-/// The address of the requests.
-const PENDING: u16 = 0x0102;
-/// The address that stops the mote.
-const FAULT: u16 = 0x0104;
+use nm_base::{ENABLE, FAULT, PENDING, Ports};
 
 /// Eight slots for devices, the mask of their interrupt lines, and the first code that was written to FAULT.
 #[derive(Drop)]

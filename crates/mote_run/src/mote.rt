@@ -22,7 +22,7 @@ use mote_bus::{Access, AsBoard, BusOf, Slots};
 use mote_devices::{Device, Due, Given, Shown};
 use mote_text::{End, Loaded};
 use msp430_cpu::{Bus, Cpu, Stepped};
-use nm_base::{NoMemory, Sink, WriteFault};
+use nm_base::{NoMemory, RAM_END, Sink, WriteFault};
 use std::alloc::Global;
 
 /// A mote with a board of devices. It has run `slots` slots, of which `ran` ran an instruction; `least` is the least
@@ -64,7 +64,7 @@ impl<D: Device> MoteOf<D> {
             bus,
             slots: 0,
             ran: 0,
-            least: 0x3900,
+            least: RAM_END,
             stopped: false,
         })
     }

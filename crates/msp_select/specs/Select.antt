@@ -1,5 +1,6 @@
 -- The code of each instruction of the middle code (own; as a processor with two operands has it).
 use Rattle.std.specs.Prelude.{ℕ, zero, suc, ◌+◌, ◌-◌, ◌*◌, ◌/◌, ◌==◌, nat_lt, Bool, true, false, List, [], ◌∷◌, ◌++◌, length, map, negsuc, if◌then◌else◌}
+use Rattle.nm_base.specs.declared.memory_map.TheConstants.{FAULT}
 use Rattle.nm_base.specs.declared.action.Action.{Action}
 use Rattle.nm_base.specs.declared.action.Action.TheVariants as action
 use Rattle.msp_isa.specs.declared.code.Item.{Item}
@@ -169,7 +170,7 @@ module _ (c : MidCode) (home : ℕ → Home) (own : ℕ) where
   -- a Post is the call of a function before selection
   parts_of (Post k v) = []
   parts_of Tick = nop (action.Tick ∷ []) ∷ []
-  parts_of (Fault code) = moved false (Immediate code) (Absolute 0x0104) ∷ []
+  parts_of (Fault code) = moved false (Immediate code) (Absolute FAULT) ∷ []
 
   abbrev pub parts_of_all : List Mid → List Part
   parts_of_all [] = []

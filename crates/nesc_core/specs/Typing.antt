@@ -1,6 +1,7 @@
 -- The types that expressions, places and arguments have (C99, 6.5; own: conversions are written out, operators compute with
 -- promoted numbers, and which ports there are).
 use Rattle.std.specs.Prelude.{⊤, ◌≡◌, ℕ, ℤ, ◌%◌, ◌<◌, ◌==◌, nat_le, Bool, true, ◌||◌, ◌&&◌, List, [], ◌∷◌, length, take, Option, Some, None, slice_get}
+use Rattle.nm_base.specs.declared.memory_map.TheConstants.{ENABLE, PENDING}
 use Rattle.nm_base.specs.declared.int_type.IntType.{IntType}
 use Rattle.nm_base.specs.declared.int_type.IntType.TheVariants.{I8, U8, I16, U16, I32, U32}
 use Rattle.nm_base.specs.IntType.{wrapped}
@@ -160,7 +161,7 @@ IsUpdated op t (struct k) = ⊥
 
 -- two ports of the interrupt controller, and the even ones of the devices
 abbrev pub is_port : ℕ → Bool
-is_port port = (port == 0x0100) || (port == 0x0102) || (nat_le 0x0120 port && nat_le port 0x015E && (port % 2 == 0))
+is_port port = (port == ENABLE) || (port == PENDING) || (nat_le 0x0120 port && nat_le port 0x015E && (port % 2 == 0))
 
 abbrev pub IsPort : ℕ → Type 0
 IsPort port = is_port port ≡ true

@@ -1,5 +1,20 @@
 //! The mote's memory map.
 
+/// The first port, which is read and written by words alone.
+pub const PORTS_START: u16 = 0x0100;
+
+/// The address behind the ports.
+pub const PORTS_END: u16 = 0x0200;
+
+/// The port of the mask of lines.
+pub const ENABLE: u16 = 0x0100;
+
+/// The port of the requests that wait.
+pub const PENDING: u16 = 0x0102;
+
+/// The port that stops the mote when a word is written to it.
+pub const FAULT: u16 = 0x0104;
+
 /// The first byte of RAM.
 pub const RAM_START: u16 = 0x1100;
 

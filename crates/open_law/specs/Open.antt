@@ -1,6 +1,7 @@
 -- The open law of code: it performs actions, whatever happens between its instructions (own).
 use Rattle.std.specs.Prelude.{◌≡◌, ℕ, ◌+◌, ◌<◌, ◌≤◌, ◌%◌, ◌==◌, Bool, true, false, ◌&&◌, nat_lt, nat_le, if◌then◌else◌, List, [], ◌∷◌, ◌++◌, length, slice_index, Option, Some, None, is_some, count_by}
 use Rattle.std.specs.List.{AllByRecursion}
+use Rattle.nm_base.specs.declared.memory_map.TheConstants.{FAULT}
 use Rattle.nm_base.specs.Lists.{IsPrefixOf}
 use Rattle.nm_base.specs.Ports.{Ports}
 use Rattle.nm_base.specs.declared.action.Action.{Action}
@@ -79,7 +80,7 @@ doing done a answers = done ++ record { action = a; answers = answers } ∷ []
 abbrev pub noted_ports : (List Done → ℕ → ℕ) → Ports (List Done)
 noted_ports answer = record {
   get = λ done p. (answer done p, doing done (In p) (answer done p ∷ []));
-  put = λ done p v. doing done (if p == 0x0104 then Fault (v % 256) else Out p v) [];
+  put = λ done p v. doing done (if p == FAULT then Fault (v % 256) else Out p v) [];
   line = λ done. None;
   accept = λ done v. done;
   stopped = fault_of;

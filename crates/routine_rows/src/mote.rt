@@ -9,11 +9,8 @@ use msp_isa::{Instr, Op1, Op2, Operand, encode, load_image};
 use msp_layout::layout;
 use msp_routines::routines_of;
 use msp430_cpu::{Bus, Cpu, MemoryBus};
-use nm_base::{Fault, Ports};
+use nm_base::{FAULT, Fault, Ports, RAM_END, RAM_START};
 use std::alloc::Global;
-
-/// The port that stops a mote.
-const FAULT: u16 = 0x0104;
 
 /// What the caller writes to FAULT behind the call.
 const BACK: u16 = 0xFF;
@@ -22,10 +19,7 @@ const BACK: u16 = 0xFF;
 const CALLER: u16 = 0x1200;
 
 /// Where the caller finds the four words that it passes.
-const PASSED: u16 = 0x1100;
-
-/// The end of the stack.
-const STACK_END: u16 = 0x3900;
+const PASSED: u16 = RAM_START;
 
 /// The instructions of the caller in front of those of the routine.
 const CALLER_STEPS: u32 = 14;
@@ -101,7 +95,7 @@ impl Mote {
     pub fn call(&mut self, passed: [u16; 4]) -> Called {
         put_passed(&mut self.bus, passed);
         let mut cpu = Cpu::new(CALLER);
-        let mut lowest = STACK_END;
+        let mut lowest = RAM_END;
         let mut steps = 0;
         for step in 1..MOST_STEPS {
             cpu.step(&mut self.bus);
@@ -125,7 +119,7 @@ fn at_end(cpu: &Cpu, fault: u16, steps: u32, lowest: u16) -> Called {
         words: [cpu.reg(12), cpu.reg(13), cpu.reg(14), cpu.reg(15)],
         keeps: keeps(cpu),
         steps: steps.saturating_sub(CALLER_STEPS + own_steps),
-        stack: STACK_END.saturating_sub(lowest),
+        stack: RAM_END.saturating_sub(lowest),
     }
 }
 
@@ -135,7 +129,7 @@ fn keeps(cpu: &Cpu) -> bool {
             return false;
         }
     }
-    cpu.reg(1) == STACK_END
+    cpu.reg(1) == RAM_END
 }
 
 // What R4 to R11 have when the routine is called.
