@@ -1,5 +1,5 @@
 -- The text of a race report (own).
-use Rattle.std.specs.Prelude.{ℕ, ◌<◌, ◌^◌, List, [], ◌∷◌, ◌++◌, length, Option, Some, None, slice_get, codes, decimal}
+use Rattle.std.specs.Prelude.{ℕ, List, [], ◌∷◌, ◌++◌, length, Option, Some, None, slice_get, codes, decimal}
 use Rattle.std.specs.List.{flat_map}
 use Rattle.nm_base.specs.declared.pos.Pos.{Pos}
 use Rattle.nesc_core.specs.Plain.{Object, Body, Warning, Program}
@@ -30,11 +30,6 @@ path_text p (f ∷ rest) = body_name (slice_get p.bodies f) ++ flat_map (behind_
 
 abbrev pub paths_text : Program → Row → List ℕ
 paths_text p r = codes "  path " ++ (path_text p r.path ++ (10 ∷ codes "  async " ++ (path_text p r.async_path ++ 10 ∷ [])))
-
--- numbers of 32 bits count the bodies of its paths
-pub record IsShort (r : Row) : Type 0 where
-  pub path : length r.path < 2 ^ 32
-  pub async_path : length r.async_path < 2 ^ 32
 
 -- given the names of the files
 module _ (files : ℕ → Option (List ℕ)) where

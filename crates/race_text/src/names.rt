@@ -1,6 +1,6 @@
 //! Names and places in the text.
 
-ghost use Rattle.std.specs.Prelude.{◌≡◌, ◌+◌, ◌<◌, ◌^◌, ◌++◌, length, map, OnOk, codes, decimal, drop, slice_get};
+ghost use Rattle.std.specs.Prelude.{◌≡◌, ◌++◌, map, OnOk, codes, decimal, slice_get};
 ghost use Rattle.std.specs.List.{flat_map};
 ghost use Rattle.nesc_core.specs.View.{body_of, object_of, program_of};
 ghost use Rattle.nesc_preproc.specs.Kept.{name_at};
@@ -70,28 +70,23 @@ fn push_behind(text: &mut Vec<u8>, p: &Program, f: u32) -> Result<(), NoMemory>
 }
 
 // The bodies behind the first.
-#[tactic(auto, using(crate::proofs::TextLemmas::steps))]
-fn push_rest(text: &mut Vec<u8>, p: &Program, path: &Path) -> Result<(), NoMemory>
-    requires { length path.now < 2 ^ 32 }
-    ensures { OnOk result (text.new.items ≡ text.old.items ++ flat_map (spec.behind_text (program_of p.now)) (drop 1 path.now)) }
+#[tactic(auto, using(crate::proofs::TextLemmas::lines))]
+fn push_rest(text: &mut Vec<u8>, p: &Program, rest: &[u32]) -> Result<(), NoMemory>
+    ensures { OnOk result (text.new.items ≡ text.old.items ++ flat_map (spec.behind_text (program_of p.now)) rest.now) }
 {
-    let mut i = 1_usize;
-    while let Some(f) = path.get(i) {
-        push_behind(text, p, f)?;
-        i += 1;
+    for f in rest {
+        push_behind(text, p, *f)?;
     }
     Ok(())
 }
 
 /// The names of a path's bodies.
-#[tactic(auto, using(crate::proofs::TextLemmas::first))]
 pub(crate) fn push_path(text: &mut Vec<u8>, p: &Program, path: &Path) -> Result<(), NoMemory>
-    requires { length path.now < 2 ^ 32 }
     ensures { OnOk result (text.new.items ≡ text.old.items ++ spec.path_text (program_of p.now) path.now) }
 {
-    let Some(f) = path.get(0) else {
+    let Some((first, rest)) = path.as_slice().split_first() else {
         return Ok(());
     };
-    push_body(text, p, f)?;
-    push_rest(text, p, path)
+    push_body(text, p, *first)?;
+    push_rest(text, p, rest)
 }

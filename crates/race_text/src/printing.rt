@@ -1,6 +1,6 @@
 //! The lines of the text.
 
-ghost use Rattle.std.specs.Prelude.{◌≡◌, ◌<◌, ◌^◌, ◌++◌, ◌∷◌, [], All, length, map, IfOk, OnOk, codes};
+ghost use Rattle.std.specs.Prelude.{◌≡◌, ◌++◌, ◌∷◌, [], map, IfOk, OnOk, codes};
 ghost use Rattle.std.specs.List.{flat_map};
 ghost use Rattle.nesc_core.specs.View.{program_of, warning_of};
 ghost use Rattle.nesc_preproc.specs.Kept.{name_at};
@@ -63,7 +63,6 @@ fn push_site(
 
 // The lines of its two paths.
 fn push_paths(text: &mut Vec<u8>, p: &Program, row: &Row) -> Result<(), NoMemory>
-    requires { spec.IsShort row.now }
     ensures { OnOk result (text.new.items ≡ text.old.items ++ spec.paths_text (program_of p.now) row.now) }
 {
     text.extend_from_slice(b"  path ")?;
@@ -97,7 +96,6 @@ fn push_rows(
     files: &Reading,
     rows: &[Row],
 ) -> Result<(), NoMemory>
-    requires { All spec.IsShort rows.now }
     ensures { OnOk result (text.new.items ≡ text.old.items ++ flat_map (spec.row_text (name_at files.now) (program_of p.now)) rows.now) }
 {
     for row in rows {
@@ -114,7 +112,6 @@ pub fn print_report(
     files: &Reading,
     rows: &[Row],
 ) -> Result<Vec<u8>, NoMemory>
-    requires { All spec.IsShort rows.now }
     ensures { IfOk result (λ text. text.items ≡ spec.report_text (name_at files.now) (program_of p.now) rows.now) }
 {
     let mut text = Vec::new(alloc);
