@@ -15,5 +15,3 @@ pub use mode::Mode;
 pub use rows::worked_rows;
 pub use texts::{HELP, VERSION};
 
-#[cfg(test)]
-mod tests;
