@@ -1,4 +1,5 @@
 pub mod Tree
+pub mod View
 pub mod Scopes
 pub mod Initial
 pub mod Stmts

@@ -8,7 +8,7 @@ use Rattle.nesc_tree.specs.Plain as s
 use Rattle.nesc_types.specs.Rule.{Rule, refuse}
 use Rattle.elab_meaning.specs.Elab.{State}
 use Rattle.elab_meaning.specs.RowForms.{at, world, values, start}
-use Rattle.body_meaning.specs.Tree.{Init, Inits, one, many, no_inits, more_inits, Variable, Local, variables, typedef, type_only, Stmt, Stmts, no_stmts, more_stmts, MaybeStmt, no_stmt, some_stmt}
+use Rattle.body_meaning.specs.Tree.{Init, Inits, one, many, no_inits, more_inits, Variable, variables, Stmt, Stmts, no_stmts, more_stmts, MaybeStmt, no_stmt, some_stmt}
 use Rattle.body_meaning.specs.Tree as tree
 use Rattle.body_meaning.specs.Stmts.{stmt}
 
@@ -48,7 +48,7 @@ pointer_to v = record v { stars = 1 }
 
 -- declared at a column
 abbrev pub local : (col : ℕ) → s.TypeSpec → List Variable → Stmt
-local col t vs = tree.local (variables t vs) (at col)
+local col t vs = tree.local (variables t false vs) (at col)
 
 -- ---- what statements of a function give that has a number: code, and the types of the locals made
 

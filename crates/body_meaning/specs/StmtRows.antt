@@ -92,10 +92,10 @@ pub record StmtRows : Type 0 where
       (blocked (blocked (core.clear 11 ∷ blocked (core.clear 12 ∷ core.eval (core.assign (core.local 12) (num I16 1) (at 21)) ∷ []) ∷ core.eval (core.assign (core.local 11) (num I16 2) (at 30)) ∷ [])
       ∷ core.eval (core.assign (core.local 3) (num I16 3) (at 39)) ∷ []))
       (int I16 ∷ int I16 ∷ [])
-      ∷ making (block (block (tree.local (typedef (codes "w") (plain (s.named (codes "uint8_t"))) (at 21)) (at 5) ∷ local 24 (plain (s.named (codes "w"))) (var (codes "d") 26 None ∷ []) ∷ []) ∷ eval (s.index (v (codes "w") 31) (n (codes "0") 33) (at 31)) ∷ []))
+      ∷ making (block (block (tree.local (typedef (codes "w") (plain (s.named (codes "uint8_t"))) [] (at 21)) (at 5) ∷ local 24 (plain (s.named (codes "w"))) (var (codes "d") 26 None ∷ []) ∷ []) ∷ eval (s.index (v (codes "w") 31) (n (codes "0") 33) (at 31)) ∷ []))
       (blocked (blocked (core.clear 11 ∷ []) ∷ core.eval (core.read (core.index (core.local 10) (num I16 0)) (at 31)) ∷ []))
       (int U8 ∷ [])
-      ∷ gives (block (tree.local (type_only (plain (s.enum_of None (s.more_items (codes "ONE") (s.some_expr (n (codes "5") 16)) (at 10) s.no_items)))) (at 3) ∷ eval (set (v (codes "i") 21) (v (codes "ONE") 25)) ∷ []))
+      ∷ gives (block (tree.local (type_only (plain (s.enum_of None (s.more_items (codes "ONE") (s.some_expr (n (codes "5") 16)) (at 10) s.no_items))) (at 3)) (at 3) ∷ eval (set (v (codes "i") 21) (v (codes "ONE") 25)) ∷ []))
       (blocked (core.eval (core.assign (core.local 3) (num I16 5) (at 21)) ∷ []))
       ∷ [])
   -- switch (a) { case 1: break; case 2: default: ; i = 3; }   switch (u) { case -1: int d; }   switch (i) break;

@@ -18,7 +18,7 @@ use Rattle.elab_meaning.specs.Elab.{Elab, by, ◌>>=◌, ◌>>◌, give, state, 
 use Rattle.elab_meaning.specs.Convert.{scalar, integer, converted, is_void, size, target}
 use Rattle.elab_meaning.specs.Operators.{Based, promoted_value, new_name}
 use Rattle.elab_meaning.specs.Wired.{starred, dimensioned, is_const_at, base_of, lengths, value, whole_constant}
-use Rattle.body_meaning.specs.Tree.{Init, Variable, Local, typedef, type_only, variables, Start, nothing, first, declared, Stmt, Stmts, MaybeStmt, no_stmts, more_stmts, no_stmt, some_stmt}
+use Rattle.body_meaning.specs.Tree.{Init, Variable, Decl, Start, nothing, first, declared, Stmt, Stmts, MaybeStmt, no_stmts, more_stmts, no_stmt, some_stmt}
 use Rattle.body_meaning.specs.Tree as tree
 use Rattle.body_meaning.specs.Scopes.{scoped, in_turn}
 use Rattle.body_meaning.specs.Initial.{initial}
@@ -59,7 +59,7 @@ followed_by l more = record { cases = l.cases ++ more.cases; code = l.code ++ mo
 abbrev pub switch_on : Expr → Labelled → core.Stmt
 switch_on e l = core.switch e l.cases (stmts_of l.code)
 
-abbrev pub declaration_in : Stmt → Option (Local × Pos)
+abbrev pub declaration_in : Stmt → Option (Decl × Pos)
 declaration_in (tree.local d at) = Some (d, at)
 declaration_in _ = None
 
@@ -117,10 +117,11 @@ module _ (env : Env) (values : List (Option Constant)) where
     b ← base_of env values at base
     give []
 
-  abbrev pub declaration : Pos → Local → Elab (List core.Stmt)
-  declaration at (typedef name t name_at) = type_named name_at name t
-  declaration at (type_only t) = type_declared at t
-  declaration at (variables t vs) = declares at t vs
+  abbrev pub declaration : Pos → Decl → Elab (List core.Stmt)
+  declaration at (tree.typedef name t attrs name_at) = type_named name_at name t
+  declaration at (tree.type_only t type_at) = type_declared type_at t
+  declaration at (tree.variables t norace vs) = declares at t vs
+  declaration at (tree.function head body) = by (refuse (Syntax at))
 
   -- ---- parts of statements
 
@@ -171,7 +172,7 @@ module _ (env : Env) (values : List (Option Constant)) where
     give (wrapped t c.1)
 
   -- a declaration in a block stands in it part by part
-  abbrev pub item_of : Option (Local × Pos) → Elab core.Stmt → Elab (List core.Stmt)
+  abbrev pub item_of : Option (Decl × Pos) → Elab core.Stmt → Elab (List core.Stmt)
   item_of (Some d) work = declaration d.1 d.0
   item_of None work = do
     code ← work

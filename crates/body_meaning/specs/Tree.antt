@@ -1,6 +1,7 @@
--- Trees of statements and of the declarations in them as plain data, over which meanings are written.
+-- Trees of declarations and statements as plain data, over which meanings are written.
 use Rattle.std.specs.Prelude.{ℕ, Bool, List, Option}
 use Rattle.nm_base.specs.declared.pos.Pos.{Pos}
+use Rattle.nesc_tree.specs.declared.declarations.FuncKind.{FuncKind}
 use Rattle.nesc_tree.specs.Plain.{Expr, Exprs, MaybeExpr, TypeSpec}
 
 -- in braces or without
@@ -21,20 +22,47 @@ pub record Variable : Type 0 where
   pub init : Option Init
   pub at : Pos
 
--- a declaration in a block: a type's name, at that name; a type alone; or variables that share a type
-pub data Local : Type 0 where
-  typedef : (name : List ℕ) → TypeSpec → Pos → Local
-  type_only : TypeSpec → Local
-  variables : TypeSpec → List Variable → Local
-
 -- what stands before the first `;` of a `for`
 pub data Start : Type 0 where
   nothing : Start
   first : Expr → Start
   declared : TypeSpec → List Variable → Start
 
--- each at its first token
+-- what an attribute is given
+pub data AttrArg : Type 0 where
+  text : List ℕ → AttrArg
+  value : Expr → AttrArg
+
+pub record Attr : Type 0 where
+  pub name : List ℕ
+  pub args : List AttrArg
+
+pub record Param : Type 0 where
+  pub ty : TypeSpec
+  pub name : Option (List ℕ)
+
+-- the head of a function, of a task, or of a command or event `name.item`, with the parameter of its bracket, at its name
+pub record Head : Type 0 where
+  pub kind : FuncKind
+  pub name : List ℕ
+  pub item : Option (List ℕ)
+  pub bracket : Option Param
+  pub is_async : Bool
+  pub is_default : Bool
+  pub result : TypeSpec
+  pub params : List Param
+  pub attrs : List Attr
+  pub at : Pos
+
+-- A declaration: the name of a type, at that name; a type alone; variables that share a type; a function, or its prototype. Each
+-- statement stands at its first token
 mutual
+  pub data Decl : Type 0 where
+    typedef : (name : List ℕ) → TypeSpec → List Attr → Pos → Decl
+    type_only : TypeSpec → Pos → Decl
+    variables : TypeSpec → (norace : Bool) → List Variable → Decl
+    function : Head → MaybeStmt → Decl
+
   pub data Stmt : Type 0 where
     block : Stmts → Pos → Stmt
     empty : Pos → Stmt
@@ -50,7 +78,7 @@ mutual
     break : Pos → Stmt
     continue : Pos → Stmt
     return : MaybeExpr → Pos → Stmt
-    local : Local → Pos → Stmt
+    local : Decl → Pos → Stmt
 
   pub data Stmts : Type 0 where
     no_stmts : Stmts
