@@ -15,4 +15,3 @@ pub mod Walking
 pub mod Syncs
 pub mod Graphs
 pub mod Naming
-pub mod TestLemmas

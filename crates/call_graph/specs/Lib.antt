@@ -9,4 +9,3 @@ pub mod Search
 pub mod Refusals
 pub mod Shortest
 pub mod Named
-pub mod TestPrograms

@@ -9,8 +9,6 @@ mod ranks;
 mod refusals;
 mod search;
 mod table;
-#[cfg(test)]
-mod tests;
 mod uses;
 
 pub use building::graph;

@@ -1,4 +1,4 @@
--- The bodies of the tests' programs, statement by statement.
+-- The bodies of the programs, statement by statement.
 use Rattle.std.proofs.Common.{◌≡◌, ℕ, zero, suc, ◌+◌, ◌<◌, ◌≤◌, ◌^◌, false, ◌⊎◌, inl, inr, List, [], ◌∷◌, ◌++◌, length, length-append, map, Option, Some, None, Box, Global, refl, sym, subst, ap, arith, rules, ◌∙◌, append_assoc}
 use Rattle.std.specs.Prelude.{slice_get}
 use Rattle.std.specs.List.{flat_map}
@@ -17,7 +17,7 @@ use Rattle.nesc_core.proofs.NodeLemmas.{expr_of-Call}
 use Rattle.call_graph.specs.Paths.{IsIn, callee}
 use Rattle.call_graph.specs.Uses.{uses_of}
 use Rattle.call_graph.specs.Graph.{IsCounted}
-use Rattle.call_graph.specs.TestPrograms.{AreCalls, IsCall, IsCaller, AreCallers}
+use Rattle.graph_rows.specs.Programs.{AreCalls, IsCall, IsCaller, AreCallers}
 use Rattle.call_graph.proofs.Lists.{in_either}
 use Rattle.call_graph.proofs.SameCalls.{stmt_same}
 use Rattle.call_graph.proofs.ViewLists.{block_is}

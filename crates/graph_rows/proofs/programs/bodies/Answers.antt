@@ -1,5 +1,5 @@
-use Rattle.call_graph.proofs.TestLemmas.{one_caller_more, size_more}
-use Rattle.call_graph.proofs.tests.bodies.Goals as goal
+use Rattle.graph_rows.proofs.CallerLemmas.{one_caller_more, size_more}
+use Rattle.graph_rows.proofs.programs.bodies.Goals as goal
 
 pub loop-f-preserved : goal.loop-f-preserved
 loop-f-preserved c = (

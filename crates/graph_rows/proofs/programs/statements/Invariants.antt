@@ -1,5 +1,5 @@
-use Rattle.call_graph.specs.TestPrograms.{AreCalls}
-use Rattle.call_graph.proofs.tests.statements.Given as goal
+use Rattle.graph_rows.specs.Programs.{AreCalls}
+use Rattle.graph_rows.proofs.programs.statements.Given as goal
 
 abbrev pub invariant-loop-made : goal.invariant-loop-made
 invariant-loop-made l = AreCalls l.count l.list.items

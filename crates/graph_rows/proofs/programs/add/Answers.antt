@@ -1,6 +1,6 @@
 use Rattle.std.proofs.Common.{◌<◌, length, subst}
-use Rattle.call_graph.proofs.TestLemmas.{one_more}
-use Rattle.call_graph.proofs.tests.add.Goals as goal
+use Rattle.graph_rows.proofs.CallerLemmas.{one_more}
+use Rattle.graph_rows.proofs.programs.add.Goals as goal
 
 pub returns-in_ok-push : goal.returns-in_ok-push
 returns-in_ok-push c =

@@ -1,4 +1,4 @@
--- What the bodies of the tests' programs are, so that they have graphs (own).
+-- What the bodies of the programs of the rows are, so that they have graphs (own).
 use Rattle.std.specs.Prelude.{⊤, ℕ, ◌*◌, ◌<◌, ◌≤◌, ◌^◌, List, [], ◌∷◌, length}
 use Rattle.nesc_core.specs.declared.tree.Body.{Body}
 use Rattle.nesc_core.specs.declared.tree.CoreStmt.{CoreStmt}

@@ -1,7 +1,7 @@
 use Rattle.std.proofs.Common.{map, ap, arith}
 use Rattle.nesc_core.specs.View.{body_of}
-use Rattle.call_graph.proofs.TestLemmas.{counted}
-use Rattle.call_graph.proofs.tests.program.Goals as goal
+use Rattle.graph_rows.proofs.CallerLemmas.{counted}
+use Rattle.graph_rows.proofs.programs.program.Goals as goal
 
 pub returns : goal.returns
 returns c =
