@@ -7,5 +7,3 @@ mod trace_line;
 
 pub use mote::{AsMote, BoardMote, MoteOf};
 
-#[cfg(test)]
-mod tests;

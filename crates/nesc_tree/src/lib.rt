@@ -8,8 +8,6 @@ pub mod level;
 mod names;
 mod operand;
 mod sorts;
-#[cfg(test)]
-mod tests;
 mod tree;
 
 pub use components::{

@@ -6,8 +6,6 @@ mod laws;
 mod reached;
 mod steps;
 mod table;
-#[cfg(test)]
-mod tests;
 mod walk;
 
 pub use end::{End, Wire};
