@@ -13,3 +13,4 @@ pub mod Comments
 pub mod Tested
 pub mod Exhaustive
 pub mod Whole
+pub mod Joining

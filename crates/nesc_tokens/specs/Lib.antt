@@ -1,5 +1,6 @@
 pub mod CodePoints
 pub mod Splices
+pub mod Joined
 pub mod Spelling
 pub mod Longest
 pub mod Lexes

@@ -2,6 +2,7 @@
 #![tactic(auto)]
 
 mod classes;
+mod joined;
 mod lexer;
 mod literals;
 mod longest;
@@ -11,5 +12,7 @@ mod rows;
 mod signs;
 mod splice;
 
+pub use joined::{joined_bytes, stands_at};
 pub use lexer::{lex, one_lexing};
 pub use rows::worked_rows;
+pub use splice::SourceByte;
