@@ -4,3 +4,4 @@ pub mod Naming
 pub mod Replacing
 pub mod Tabled
 pub mod Linked
+pub mod Grouped

@@ -13,7 +13,7 @@ use Rattle.std.proofs.lemmas.List.{append-nil, length-map, map-append}
 use Rattle.nesc_macros.specs.declared.definition.Macro.{Macro}
 use Rattle.nesc_macros.specs.declared.definition.NumberedToken.{NumberedToken}
 use Rattle.nesc_macros.specs.Invocation.{Name, Actuals, PreprocessingToken, Passes, FunctionLike, Misused, actuals, fits, invoked, same_name, is_among, is_empty, is_word, macro_of, may_be_used, use_of, used, used_as}
-use Rattle.nesc_macros.specs.Expansion.{intersection, tokens_of, unhidden, union}
+use Rattle.nesc_macros.specs.Expansion.{intersection, tokens_of, union}
 use Rattle.nesc_macros.specs.declared.frames.Frame.{Frame}
 use Rattle.nesc_macros.specs.Frames.{weight_of_frame, weight_of_frames}
 use Rattle.nm_base.specs.declared.token.Token.{Token}
@@ -259,12 +259,6 @@ names_of_replacement scope number name hide_set x y is at =
 pub tokens_as_shown : (scope : Scope) (ts : List NumberedToken) → tokens_in ts ≡ tokens_of (all_shown scope ts)
 tokens_as_shown scope [] = refl
 tokens_as_shown scope (t ∷ ts) = ap (λ (l : List Token). t.token ∷ l) (tokens_as_shown scope ts)
-
-pub unhidden_push : (scope : Scope) (all : List NumberedToken) (before : List Token) (token : Token) (hide_set : HideSet) → numbers_in scope.links hide_set ≡ [] → all_shown scope all ≡ unhidden before → all_shown scope (all ++ record { token = token; hide_set = hide_set } ∷ []) ≡ unhidden (before ++ token ∷ [])
-unhidden_push scope all before token hide_set none is =
-    shown_push scope all (record { token = token; hide_set = hide_set })
-    ∙ (λ i. is i ++ record { token = token; hide_set = named scope (none i) } ∷ [])
-    ∙ sym (map-append (λ (t : Token). record { token = t; hide_set = [] }) before (token ∷ []))
 
 pub weight_front : (f : Frame) (fs : List Frame) → weight_of_frames (f ∷ fs) ≡ weight_of_frame f + weight_of_frames fs
 weight_front f fs = sum_by-cons weight_of_frame f fs

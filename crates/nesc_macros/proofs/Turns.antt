@@ -3,13 +3,14 @@ use Rattle.std.proofs.Common.{◌≡◌, ℕ, zero, suc, ◌+◌, ◌<◌, ◌�
 use Rattle.std.specs.Prelude.{nat_lt}
 use Rattle.std.proofs.lemmas.Bool.{lt-ltb, le-ltb}
 use Rattle.std.proofs.lemmas.List.{append-nil, length-map}
+use Rattle.nm_base.specs.declared.limit.TheConstants.{MAX_TOKENS}
 use Rattle.nm_base.specs.declared.token.Token.{Token}
 use Rattle.nm_base.specs.declared.refusal.Refusal.TheVariants as refusal
 use Rattle.nm_base.specs.declared.fault.Fault.{Fault}
 use Rattle.nm_base.specs.declared.fault.Fault.TheVariants as fault
 use Rattle.nesc_macros.specs.declared.definition.Macro.{Macro}
 use Rattle.nesc_macros.specs.Invocation.{Name, PreprocessingToken, Passes, ObjectLike, FunctionLike, Misused, use_of, Actuals}
-use Rattle.nesc_macros.specs.Expansion.{Answer, ExpandsTo, FailsTo, Settles, all_of, and_then, by_use, expanded, gives, go_on, intersection, max_tokens, object_replacement, placed, put_where, tokens_of, too_many, unhidden}
+use Rattle.nesc_macros.specs.Expansion.{Answer, ExpandsTo, FailsTo, Settles, all_of, and_then, by_use, expanded, gives, go_on, intersection, object_replacement, placed, put_where, tokens_of, too_many, unhidden}
 use Rattle.nesc_macros.specs.Code.{UnlessNoMemory}
 use Rattle.nesc_macros.specs.Numbers.{Scope, macros_at}
 use Rattle.nesc_macros.specs.Frames.{EndsIn, LeadsTo, ResumesTo, Suspended, answered, behind, completed, replaced, resumed, value_behind, with_argument}
@@ -56,10 +57,10 @@ token_passes macros count frames out rest next t whole is next-is ends = (
   subst (λ (a : Answer Tokens). LeadsTo macros frames a whole) (ap (λ (l : Tokens). behind l ends.0) next-is ∙ sym (behind_both out t ends.0)) ends.2,
 )
 
-pub object_is_replaced : (macros : List Macro) (count now : ℕ) (frames : List Suspended) (out rest list next : Tokens) (t : PreprocessingToken) (m : Macro) (whole : Answer Tokens) → use_of macros t rest ≡ ObjectLike m → list ≡ object_replacement m t → now ≡ count + length list → now ≤ max_tokens → next ≡ list ++ rest → EndsIn macros now frames out next whole → EndsIn macros count frames out (t ∷ rest) whole
+pub object_is_replaced : (macros : List Macro) (count now : ℕ) (frames : List Suspended) (out rest list next : Tokens) (t : PreprocessingToken) (m : Macro) (whole : Answer Tokens) → use_of macros t rest ≡ ObjectLike m → list ≡ object_replacement m t → now ≡ count + length list → now ≤ MAX_TOKENS → next ≡ list ++ rest → EndsIn macros now frames out next whole → EndsIn macros count frames out (t ∷ rest) whole
 object_is_replaced macros count now frames out rest list next t m whole is list-is now-is within next-is ends =
     let now-too : now ≡ count + length (object_replacement m t) = now-is ∙ ap (λ (l : Tokens). count + length l) list-is in
-    let fits : nat_lt max_tokens (count + length (object_replacement m t)) ≡ false = le-ltb _ _ (omega (arith, now-too)) in
+    let fits : nat_lt MAX_TOKENS (count + length (object_replacement m t)) ≡ false = le-ltb _ _ (omega (arith, now-too)) in
     let next-too : next ≡ object_replacement m t ++ rest = next-is ∙ ap (λ (l : Tokens). l ++ rest) list-is in (
       ends.0,
       from_next (λ (n : ℕ). expanded n macros count (t ∷ rest)) ends.0 ends.1.0
@@ -97,9 +98,9 @@ token_is_misused macros count frames out rest t is = (
   refusal_leads macros frames (fault.Refused (refusal.MacroArguments t.token.pos)) count,
 )
 
-pub object_is_too_long : (macros : List Macro) (count more : ℕ) (frames : List Suspended) (out rest : Tokens) (t : PreprocessingToken) (m : Macro) → use_of macros t rest ≡ ObjectLike m → more ≡ length (object_replacement m t) → max_tokens < count + more → EndsIn macros count frames out (t ∷ rest) (refused_with too_many count)
+pub object_is_too_long : (macros : List Macro) (count more : ℕ) (frames : List Suspended) (out rest : Tokens) (t : PreprocessingToken) (m : Macro) → use_of macros t rest ≡ ObjectLike m → more ≡ length (object_replacement m t) → MAX_TOKENS < count + more → EndsIn macros count frames out (t ∷ rest) (refused_with too_many count)
 object_is_too_long macros count more frames out rest t m is more-is past =
-    let over : nat_lt max_tokens (count + length (object_replacement m t)) ≡ true = lt-ltb _ _ (omega (arith, more-is)) in (
+    let over : nat_lt MAX_TOKENS (count + length (object_replacement m t)) ≡ true = lt-ltb _ _ (omega (arith, more-is)) in (
       refused_with too_many count,
       from_next (λ (n : ℕ). expanded n macros count (t ∷ rest)) _ 0
           (λ k le. ap (by_use (expanded k macros) count t rest) is
@@ -164,10 +165,10 @@ completes steps macros count f waits =
     ap (λ (l : Lists). and_then (all_of (expanded steps macros) count l) (λ others count. completed steps macros f (f.expanded ++ others) count)) waits
     ∙ ap (λ (l : Lists). completed steps macros f l count) (append-nil f.expanded)
 
-pub function_is_replaced : (macros : List Macro) (count now : ℕ) (outer : List Suspended) (f : Suspended) (list next : Tokens) (whole : Answer Tokens) → f.waiting ≡ [] → list ≡ replaced f f.expanded → now ≡ count + length list → now ≤ max_tokens → next ≡ list ++ f.pending → EndsIn macros now outer f.out next whole → ResumesTo macros count f outer whole
+pub function_is_replaced : (macros : List Macro) (count now : ℕ) (outer : List Suspended) (f : Suspended) (list next : Tokens) (whole : Answer Tokens) → f.waiting ≡ [] → list ≡ replaced f f.expanded → now ≡ count + length list → now ≤ MAX_TOKENS → next ≡ list ++ f.pending → EndsIn macros now outer f.out next whole → ResumesTo macros count f outer whole
 function_is_replaced macros count now outer f list next whole waits list-is now-is within next-is ends =
     let now-too : now ≡ count + length (replaced f f.expanded) = now-is ∙ ap (λ (l : Tokens). count + length l) list-is in
-    let fits : nat_lt max_tokens (count + length (replaced f f.expanded)) ≡ false = le-ltb _ _ (omega (arith, now-too)) in
+    let fits : nat_lt MAX_TOKENS (count + length (replaced f f.expanded)) ≡ false = le-ltb _ _ (omega (arith, now-too)) in
     let next-too : next ≡ replaced f f.expanded ++ f.pending = next-is ∙ ap (λ (l : Tokens). l ++ f.pending) list-is in (
       ends.0,
       (
@@ -181,9 +182,9 @@ function_is_replaced macros count now outer f list next whole waits list-is now-
       ends.2,
     )
 
-pub function_is_too_long : (macros : List Macro) (count : ℕ) (outer : List Suspended) (f : Suspended) → f.waiting ≡ [] → max_tokens < count + length (replaced f f.expanded) → ResumesTo macros count f outer (refused_with too_many count)
+pub function_is_too_long : (macros : List Macro) (count : ℕ) (outer : List Suspended) (f : Suspended) → f.waiting ≡ [] → MAX_TOKENS < count + length (replaced f f.expanded) → ResumesTo macros count f outer (refused_with too_many count)
 function_is_too_long macros count outer f waits past =
-    let over : nat_lt max_tokens (count + length (replaced f f.expanded)) ≡ true = lt-ltb _ _ past in (
+    let over : nat_lt MAX_TOKENS (count + length (replaced f f.expanded)) ≡ true = lt-ltb _ _ past in (
       refused_with too_many count,
       (
         0,
@@ -212,7 +213,7 @@ pub none_left : {A : Type 0} (old new : List A) → old ≡ new → new ≡ drop
 none_left [] new same rest = refl
 none_left (x ∷ old) new same rest = absurd (let len : length (x ∷ old) ≡ length old = ap length (same ∙ rest) in omega (arith, len))
 
-pub too_long_unless : (e : Fault) (count now : ℕ) (outer : Scope → List Suspended) (f : Scope → Suspended) → e ≡ too_many → now ≡ count → ((scope : Scope) → (f scope).waiting ≡ []) → ((scope : Scope) → max_tokens < count + length (replaced (f scope) (f scope).expanded)) → UnlessNoMemory e ((scope : Scope) → ResumesTo (macros_at scope) count (f scope) (outer scope) (refused_with e now))
+pub too_long_unless : (e : Fault) (count now : ℕ) (outer : Scope → List Suspended) (f : Scope → Suspended) → e ≡ too_many → now ≡ count → ((scope : Scope) → (f scope).waiting ≡ []) → ((scope : Scope) → MAX_TOKENS < count + length (replaced (f scope) (f scope).expanded)) → UnlessNoMemory e ((scope : Scope) → ResumesTo (macros_at scope) count (f scope) (outer scope) (refused_with e now))
 too_long_unless e count now outer f is same waits past = rw (is, same) (λ scope. function_is_too_long (macros_at scope) count (outer scope) (f scope) (waits scope) (past scope))
 
 pub ends_elsewhere : (macros : List Macro) (count : ℕ) (frames frames' : List Suspended) (out out' pending pending' : Tokens) (whole : Answer Tokens) → frames ≡ frames' → out ≡ out' → pending ≡ pending' → EndsIn macros count frames out pending whole → EndsIn macros count frames' out' pending' whole

@@ -6,8 +6,8 @@ use Rattle.nesc_macros.specs.declared.table.Table.{Table}
 use Rattle.nesc_macros.specs.declared.definition.NumberedToken.{NumberedToken}
 use Rattle.nesc_macros.specs.declared.definition.NumberedMacro.{NumberedMacro}
 use Rattle.nesc_macros.specs.declared.invocation.Arguments.{Arguments}
-use Rattle.nesc_macros.specs.declared.invocation.Mark.{Mark}
-use Rattle.nesc_macros.specs.declared.invocation.Mark.TheVariants as mark
+use Rattle.nesc_macros.specs.declared.marks.Mark.{Mark}
+use Rattle.nesc_macros.specs.declared.marks.Mark.TheVariants as mark
 use Rattle.nesc_macros.specs.declared.invocation.Use.{Use as UseInCode}
 use Rattle.nesc_macros.specs.declared.invocation.Use.TheVariants as found
 use Rattle.nesc_macros.specs.Invocation.{Name, Actuals, PreprocessingToken, Passes, ObjectLike, FunctionLike, Misused, actuals, is_sign, macro_of, use_of, used_as}

@@ -1,6 +1,7 @@
 -- The expansion of a list of tokens by hide sets (D. Prosser, "Complete macro expansion algorithm", X3J11/86-196; own: the
 -- count of tokens, and that a replacement stands at its name).
 use Rattle.std.specs.Prelude.{◌≡◌, ℕ, zero, suc, ◌+◌, ◌≤◌, Bool, true, false, not, List, [], ◌∷◌, ◌++◌, nat_lt, length, map, filter, Option, Some, None, Result, Ok, Err}
+use Rattle.nm_base.specs.declared.limit.TheConstants.{MAX_TOKENS}
 use Rattle.nm_base.specs.declared.token.Token.{Token}
 use Rattle.nm_base.specs.declared.pos.Pos.{Pos}
 use Rattle.nm_base.specs.declared.refusal.Refusal.TheVariants as refusal
@@ -58,9 +59,6 @@ pub record Answer (A : Type 0) : Type 0 where
   pub value : Result A Fault
   pub count : ℕ
 
-abbrev pub max_tokens : ℕ
-max_tokens = 1000000
-
 abbrev pub go_on : {A B : Type 0} → Result A Fault → ℕ → (A → ℕ → Option (Answer B)) → Option (Answer B)
 go_on (Ok x) count go = go x count
 go_on (Err e) count go = Some (record { value = Err e; count = count })
@@ -76,7 +74,7 @@ abbrev pub refuses : {A : Type 0} → Fault → ℕ → Option (Answer A)
 refuses e count = Some (record { value = Err e; count = count })
 
 abbrev pub too_many : Fault
-too_many = fault.Limit (record { which = which.Tokens; have = max_tokens + 1 })
+too_many = fault.Limit (record { which = which.Tokens; have = MAX_TOKENS + 1 })
 
 abbrev pub put_where : {A : Type 0} → Bool → ℕ → ℕ → (ℕ → Option (Answer A)) → Option (Answer A)
 put_where true n count go = refuses too_many count
@@ -84,7 +82,7 @@ put_where false n count go = go (count + n)
 
 -- n more tokens are put before the scan
 abbrev pub put : {A : Type 0} → ℕ → ℕ → (ℕ → Option (Answer A)) → Option (Answer A)
-put n count go = put_where (nat_lt max_tokens (count + n)) n count go
+put n count go = put_where (nat_lt MAX_TOKENS (count + n)) n count go
 
 -- ---- expansion
 

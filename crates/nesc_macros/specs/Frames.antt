@@ -1,5 +1,6 @@
 -- What the list that is being expanded leads to, through the uses whose arguments are being expanded.
 use Rattle.std.specs.Prelude.{◌≡◌, ℕ, ◌+◌, ◌-◌, ◌*◌, List, [], ◌∷◌, ◌++◌, length, map, sum_by, Option, Result, Ok, Err}
+use Rattle.nm_base.specs.declared.limit.TheConstants.{MAX_TOKENS}
 use Rattle.nm_base.specs.declared.fault.Fault.{Fault}
 use Rattle.nm_base.specs.declared.pos.Pos.{Pos}
 use Rattle.nesc_macros.specs.declared.definition.Macro.{Macro}
@@ -7,7 +8,7 @@ use Rattle.nesc_macros.specs.declared.definition.NumberedToken.{NumberedToken}
 use Rattle.nesc_macros.specs.declared.frames.Frame.{Frame}
 use Rattle.nesc_macros.specs.Invocation.{Name, PreprocessingToken}
 use Rattle.nesc_macros.specs.Numbers.{Scope, all_shown, names_of}
-use Rattle.nesc_macros.specs.Expansion.{Answer, Settles, all_of, and_then, expanded, go_on, max_tokens, put, substituted}
+use Rattle.nesc_macros.specs.Expansion.{Answer, Settles, all_of, and_then, expanded, go_on, put, substituted}
 use Rattle.nesc_macros.specs.Code.{weight_of_lists}
 
 -- a use whose arguments are being expanded, with the hide set of what replaces it, and the list that it stands in: what it
@@ -31,7 +32,7 @@ suspended scope f = record {
   expanded = map (all_shown scope) f.expanded.items;
   waiting = map (all_shown scope) f.waiting.items;
   out = all_shown scope f.outer.out.items;
-  pending = all_shown scope f.outer.pending.items;
+  pending = all_shown scope f.outer.pending;
 }
 
 abbrev pub all_suspended : Scope → List Frame → List Suspended
@@ -83,11 +84,11 @@ ResumesTo macros count f outer whole =
     (b : Answer (List PreprocessingToken)) × Settles (λ steps. resumed steps macros count f) b × LeadsTo macros outer (behind f.out b) whole
 
 abbrev pub weight_of_frame : Frame → ℕ
-weight_of_frame f = weight_of_lists f.waiting.items + 2 * length f.outer.pending.items + 1
+weight_of_frame f = weight_of_lists f.waiting.items + 2 * length f.outer.pending + 1
 
 abbrev pub weight_of_frames : List Frame → ℕ
 weight_of_frames frames = sum_by weight_of_frame frames
 
 -- what falls with each turn
 abbrev pub weight : ℕ → List Frame → List NumberedToken → ℕ
-weight count frames pending = 2 * (max_tokens - count) + weight_of_frames frames + 2 * length pending
+weight count frames pending = 2 * (MAX_TOKENS - count) + weight_of_frames frames + 2 * length pending

@@ -6,3 +6,4 @@ pub mod Sets
 pub mod Numbers
 pub mod Code
 pub mod Frames
+pub mod Groups

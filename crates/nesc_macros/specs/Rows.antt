@@ -1,5 +1,6 @@
 -- Worked rows of macro expansion (C99 6.10.3, its examples in part; own: the counts).
 use Rattle.std.specs.Prelude.{◌≡◌, ℕ, ◌-◌, false, List, [], ◌∷◌, codes, map, Option, Some, None, Result, Ok, Err}
+use Rattle.nm_base.specs.declared.limit.TheConstants.{MAX_TOKENS}
 use Rattle.nm_base.specs.declared.token.Kind.{Kind}
 use Rattle.nm_base.specs.declared.token.Kind.TheVariants.{Word, Number, Sign}
 use Rattle.nm_base.specs.declared.token.Token.{Token}
@@ -8,7 +9,7 @@ use Rattle.nm_base.specs.declared.fault.Fault.{Fault}
 use Rattle.nm_base.specs.declared.fault.Fault.TheVariants as fault
 use Rattle.nesc_macros.specs.declared.definition.Macro.{Macro}
 use Rattle.nesc_macros.specs.Invocation.{Name}
-use Rattle.nesc_macros.specs.Expansion.{Answer, expanded_tokens, max_tokens, too_many}
+use Rattle.nesc_macros.specs.Expansion.{Answer, expanded_tokens, too_many}
 
 abbrev pub token : Kind → ℕ → Name → Token
 token kind column text = record { kind = kind; text = text; pos = record { file = 0; line = 1; col = column }; first = false }
@@ -95,5 +96,5 @@ pub record WorkedRows : Type 0 where
   pub comma_in_parentheses : told (expanded_tokens 20 pairs 0 nested_comma) ≡ Some (Ok (codes "3" ∷ codes "(" ∷ codes "1" ∷ codes "," ∷ codes "2" ∷ codes ")" ∷ []), 7)
   pub empty : told (expanded_tokens 20 pairs 0 empty_argument) ≡ Some (Ok (codes "7" ∷ []), 2)
   pub too_few : told (expanded_tokens 20 pairs 0 one_for_two) ≡ misused_at 4 0
-  pub at_the_limit : told (expanded_tokens 20 mutual_objects (max_tokens - 4) (w 1 (codes "a") ∷ [])) ≡ Some (Ok (codes "a" ∷ codes "2" ∷ codes "1" ∷ []), max_tokens)
-  pub past_the_limit : told (expanded_tokens 20 mutual_objects (max_tokens - 3) (w 1 (codes "a") ∷ [])) ≡ Some (Err too_many, max_tokens - 1)
+  pub at_the_limit : told (expanded_tokens 20 mutual_objects (MAX_TOKENS - 4) (w 1 (codes "a") ∷ [])) ≡ Some (Ok (codes "a" ∷ codes "2" ∷ codes "1" ∷ []), MAX_TOKENS)
+  pub past_the_limit : told (expanded_tokens 20 mutual_objects (MAX_TOKENS - 3) (w 1 (codes "a") ∷ [])) ≡ Some (Err too_many, MAX_TOKENS - 1)

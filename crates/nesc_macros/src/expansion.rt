@@ -1,33 +1,20 @@
 //! The expansion of a list of tokens.
 
 ghost use Rattle.std.specs.Prelude.{◌≡◌, ◌≤◌, IfOk, IfErr, Ok};
-ghost use Rattle.nesc_macros.specs.Numbers.{Scope, all_shown, tokens_in};
+ghost use Rattle.nm_base.specs.declared.limit.TheConstants.{MAX_TOKENS};
+ghost use Rattle.nesc_macros.specs.Numbers.{tokens_in};
 ghost use Rattle.nesc_macros.specs.Tables.{macros_in};
-ghost use Rattle.nesc_macros.specs.Expansion.{ExpandsTo, FailsTo, IsExpansionFault, unhidden};
+ghost use Rattle.nesc_macros.specs.Expansion.{ExpandsTo, FailsTo, IsExpansionFault};
 
 use crate::definition::NumberedToken;
 use crate::frames::{Level, expand_token, resume};
-use crate::hide_sets::{HideSet, HideSets};
+use crate::hide_sets::HideSets;
 use crate::macros::Macros;
+use crate::pending::Pending;
 use crate::table::Table;
 use nm_base::{Fault, List, NoMemory, Token};
 use std::alloc::Global;
 use std::collections::VecDeque;
-
-// The tokens of a text, which hide nothing.
-fn unhidden(alloc: Global, tokens: Vec<Token>) -> Result<VecDeque<NumberedToken>, NoMemory>
-    ensures { IfOk result (λ all. (scope : Scope) → all_shown scope all.items ≡ unhidden tokens.items) }
-{
-    let nothing = HideSet::empty();
-    let mut all = VecDeque::new(alloc);
-    for token in tokens {
-        all.push_back(NumberedToken {
-            token,
-            hide_set: nothing,
-        })?;
-    }
-    Ok(all)
-}
 
 fn tokens_in(alloc: Global, expanded: Vec<NumberedToken>) -> Result<Vec<Token>, NoMemory>
     ensures { IfOk result (λ all. all.items ≡ tokens_in expanded.items) }
@@ -42,8 +29,8 @@ fn expand_by(
     count: &mut u32,
     tokens: Vec<Token>,
 ) -> Result<Vec<Token>, Fault>
-    requires within { count.old ≤ 1000000 }
-    ensures within { count.new ≤ 1000000 }
+    requires within { count.old ≤ MAX_TOKENS }
+    ensures within { count.new ≤ MAX_TOKENS }
     ensures grows { count.old ≤ count.new }
     ensures expanded { IfOk result (λ v. ExpandsTo (macros_in table.now) count.old tokens.items (record { value = Ok v.items; count = count.new })) }
     ensures refused { IfErr result (λ e. FailsTo (macros_in table.now) count.old tokens.items e count.new) }
@@ -53,7 +40,7 @@ fn expand_by(
     let mut frames = VecDeque::new(alloc);
     let mut level = Level {
         out: Vec::new(alloc),
-        pending: unhidden(alloc, tokens)?,
+        pending: Pending::unhidden(alloc, tokens)?,
     };
     loop {
         if let Some(token) = level.pending.pop_front() {
@@ -76,8 +63,8 @@ pub fn expand_list(
     count: &mut u32,
     tokens: Vec<Token>,
 ) -> Result<Vec<Token>, Fault>
-    requires within { count.old ≤ 1000000 }
-    ensures within { count.new ≤ 1000000 }
+    requires within { count.old ≤ MAX_TOKENS }
+    ensures within { count.new ≤ MAX_TOKENS }
     ensures grows { count.old ≤ count.new }
     ensures expanded { IfOk result (λ v. ExpandsTo macros.now count.old tokens.items (record { value = Ok v.items; count = count.new })) }
     ensures refused { IfErr result (λ e. FailsTo macros.now count.old tokens.items e count.new) }

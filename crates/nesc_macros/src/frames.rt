@@ -2,32 +2,31 @@
 
 ghost use Rattle.std.specs.Prelude.{◌≡◌, ◌+◌, ◌<◌, ◌≤◌, ◌++◌, ◌∷◌, length, IfOk, IfErr, OnOk, Err, []};
 ghost use Rattle.std.specs.Prelude.{List as ListOf};
+ghost use Rattle.nm_base.specs.declared.limit.TheConstants.{MAX_TOKENS};
 ghost use Rattle.nesc_macros.specs.Invocation.{PreprocessingToken};
 ghost use Rattle.nesc_macros.specs.Numbers.{IsIn, Scope, all_shown, common, macros_at, scope_of, shown};
 ghost use Rattle.nesc_macros.specs.Sets.{Extends, numbers_in};
 ghost use Rattle.nesc_macros.specs.Tables.{macros_in};
 ghost use Rattle.nesc_macros.specs.declared.hide_sets.Link.{Link as LinkOf};
-ghost use Rattle.nesc_macros.specs.Expansion.{Answer, IsExpansionFault, max_tokens, too_many};
+ghost use Rattle.nesc_macros.specs.Expansion.{Answer, IsExpansionFault, too_many};
 ghost use Rattle.nesc_macros.specs.Code.{UnlessNoMemory};
 ghost use Rattle.nesc_macros.specs.Frames.{suspended, all_suspended, EndsIn, ResumesTo, weight};
 
 use crate::definition::{Macro, NumberedToken};
 use crate::hide_sets::{HideSet, HideSets};
 use crate::invocation::{Use, use_at};
+use crate::pending::Pending;
 use crate::replacement::{object_replacement, replacement_len, substituted};
 use crate::table::Table;
-use nm_base::{Fault, Limit, List, Name, NoMemory, Pos, Refusal, Which};
+use nm_base::{Fault, Limit, List, MAX_TOKENS, Name, NoMemory, Pos, Refusal, Which};
 use std::alloc::Global;
 use std::collections::VecDeque;
-
-/// How many tokens files and replacements may put before the scan.
-pub const MAX_TOKENS: u32 = 1_000_000;
 
 /// A list that is being expanded: what it has given, and what is left of it.
 #[derive(Drop)]
 pub struct Level {
     pub out: Vec<NumberedToken>,
-    pub pending: VecDeque<NumberedToken>,
+    pub pending: Pending,
 }
 
 /// A use whose arguments are being expanded, with the place and the hide set of what replaces it, and the list that it
@@ -39,16 +38,16 @@ pub struct Frame<'m> {
     pub definition: &'m Macro,
     pub parameters: &'m [Name],
     pub expanded: Vec<List<NumberedToken>>,
-    pub waiting: VecDeque<List<NumberedToken>>,
+    pub waiting: VecDeque<Pending>,
     pub outer: Level,
 }
 
 // Counts tokens that are put before the scan.
 fn count_more(count: &mut u32, more: usize) -> Result<(), Fault>
-    requires { count.old ≤ 1000000 }
+    requires { count.old ≤ MAX_TOKENS }
     ensures counted { OnOk result (count.new ≡ count.old + more) }
-    ensures within { count.new ≤ 1000000 }
-    ensures refused { IfErr result (λ e. (e ≡ too_many) × (count.new ≡ count.old) × (max_tokens < count.old + more)) }
+    ensures within { count.new ≤ MAX_TOKENS }
+    ensures refused { IfErr result (λ e. (e ≡ too_many) × (count.new ≡ count.old) × (MAX_TOKENS < count.old + more)) }
 {
     if more > (MAX_TOKENS - *count) as usize {
         return Err(Fault::Limit(Limit {
@@ -60,19 +59,6 @@ fn count_more(count: &mut u32, more: usize) -> Result<(), Fault>
     Ok(())
 }
 
-// Puts a list before what is pending.
-fn put_front(
-    pending: &mut VecDeque<NumberedToken>,
-    mut list: Vec<NumberedToken>,
-) -> Result<(), NoMemory>
-    ensures { OnOk result (pending.new.items ≡ list.items ++ pending.old.items) }
-{
-    while let Some(last) = list.pop() {
-        pending.push_front(last)?;
-    }
-    Ok(())
-}
-
 /// Goes on with a use of which no argument is being expanded: with its next argument, or with what replaces it.
 pub fn resume<'m>(
     alloc: Global,
@@ -81,24 +67,24 @@ pub fn resume<'m>(
     frames: &mut VecDeque<Frame<'m>>,
     mut frame: Frame<'m>,
 ) -> Result<Level, Fault>
-    requires { count.old ≤ 1000000 }
-    ensures within { count.new ≤ 1000000 }
+    requires { count.old ≤ MAX_TOKENS }
+    ensures within { count.new ≤ MAX_TOKENS }
     ensures grows { count.old ≤ count.new }
     ensures extends { Extends sets.old.links.items sets.new.links.items }
     ensures leads { IfOk result (λ level. (scope : Scope) (whole : Answer (ListOf PreprocessingToken)) → IsIn sets.new scope
-        → EndsIn (macros_at scope) count.new (all_suspended scope frames.new.items) (all_shown scope level.out.items) (all_shown scope level.pending.items) whole
+        → EndsIn (macros_at scope) count.new (all_suspended scope frames.new.items) (all_shown scope level.out.items) (all_shown scope level.pending) whole
         → ResumesTo (macros_at scope) count.old (suspended scope frame.entry) (all_suspended scope frames.old.items) whole) }
     ensures refused { IfErr result (λ e. UnlessNoMemory e ((scope : Scope)
         → ResumesTo (macros_at scope) count.old (suspended scope frame.entry) (all_suspended scope frames.old.items) (record { value = Err e; count = count.new }))) }
     ensures kinds { IfErr result IsExpansionFault }
-    ensures lighter { IfOk result (λ level. weight count.new frames.new.items level.pending.items
+    ensures lighter { IfOk result (λ level. weight count.new frames.new.items level.pending
         < weight count.old (frame.entry ∷ frames.old.items) []) }
 {
     if let Some(argument) = frame.waiting.pop_front() {
         frames.push_front(frame)?;
         return Ok(Level {
             out: Vec::new(alloc),
-            pending: VecDeque::from_vec(argument.into_vec()),
+            pending: argument,
         });
     }
     count_more(
@@ -118,7 +104,7 @@ pub fn resume<'m>(
         replacement,
     )?;
     let mut level = frame.outer;
-    put_front(&mut level.pending, list)?;
+    level.pending.put_front(alloc, list)?;
     Ok(level)
 }
 
@@ -132,18 +118,18 @@ pub fn expand_token<'m>(
     mut level: Level,
     token: NumberedToken,
 ) -> Result<Level, Fault>
-    requires { count.old ≤ 1000000 }
-    ensures within { count.new ≤ 1000000 }
+    requires { count.old ≤ MAX_TOKENS }
+    ensures within { count.new ≤ MAX_TOKENS }
     ensures grows { count.old ≤ count.new }
     ensures extends { Extends sets.old.links.items sets.new.links.items }
     ensures leads { IfOk result (λ next. (links : ListOf LinkOf) (whole : Answer (ListOf PreprocessingToken)) → IsIn sets.new (scope_of table.now links)
-        → EndsIn (macros_in table.now) count.new (all_suspended (scope_of table.now links) frames.new.items) (all_shown (scope_of table.now links) next.out.items) (all_shown (scope_of table.now links) next.pending.items) whole
-        → EndsIn (macros_in table.now) count.old (all_suspended (scope_of table.now links) frames.old.items) (all_shown (scope_of table.now links) level.out.items) (shown (scope_of table.now links) token ∷ all_shown (scope_of table.now links) level.pending.items) whole) }
+        → EndsIn (macros_in table.now) count.new (all_suspended (scope_of table.now links) frames.new.items) (all_shown (scope_of table.now links) next.out.items) (all_shown (scope_of table.now links) next.pending) whole
+        → EndsIn (macros_in table.now) count.old (all_suspended (scope_of table.now links) frames.old.items) (all_shown (scope_of table.now links) level.out.items) (shown (scope_of table.now links) token ∷ all_shown (scope_of table.now links) level.pending) whole) }
     ensures refused { IfErr result (λ e. UnlessNoMemory e ((links : ListOf LinkOf) → IsIn sets.new (scope_of table.now links)
-        → EndsIn (macros_in table.now) count.old (all_suspended (scope_of table.now links) frames.old.items) (all_shown (scope_of table.now links) level.out.items) (shown (scope_of table.now links) token ∷ all_shown (scope_of table.now links) level.pending.items) (record { value = Err e; count = count.new }))) }
+        → EndsIn (macros_in table.now) count.old (all_suspended (scope_of table.now links) frames.old.items) (all_shown (scope_of table.now links) level.out.items) (shown (scope_of table.now links) token ∷ all_shown (scope_of table.now links) level.pending) (record { value = Err e; count = count.new }))) }
     ensures kinds { IfErr result IsExpansionFault }
-    ensures lighter { IfOk result (λ next. weight count.new frames.new.items next.pending.items
-        < weight count.old frames.old.items (token ∷ level.pending.items)) }
+    ensures lighter { IfOk result (λ next. weight count.new frames.new.items next.pending
+        < weight count.old frames.old.items (token ∷ level.pending)) }
 {
     match use_at(alloc, table, sets, &token, &mut level.pending)? {
         Use::Passes => {
@@ -153,7 +139,7 @@ pub fn expand_token<'m>(
         Use::ObjectLike(found) => {
             count_more(count, found.definition.replacement.as_slice().len())?;
             let list = object_replacement(alloc, sets, found, &token)?;
-            put_front(&mut level.pending, list)?;
+            level.pending.put_front(alloc, list)?;
             Ok(level)
         }
         Use::FunctionLike(found, parameters, arguments) => {

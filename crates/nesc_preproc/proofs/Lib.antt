@@ -1,6 +1,5 @@
 pub mod Asking
 pub mod Closing
-pub mod Finding
 pub mod Obeying
 pub mod Opening
 pub mod Parameters
@@ -10,3 +9,4 @@ pub mod Sizes
 pub mod Stepping
 pub mod Whole
 pub mod OneExpansion
+pub mod Filed

@@ -4,9 +4,10 @@ use Rattle.std.proofs.lemmas.Bool.Decides.{nat_tests}
 use Rattle.std.specs.Prelude.{◌≡◌, ℕ, ◌+◌, ◌≤◌, Bool, false, List, [], ◌∷◌, ◌++◌, length, slice_index_or, nat_lt, Option, Result, Ok, Err}
 use Rattle.nm_base.specs.declared.fault.Fault.{Fault}
 use Rattle.nm_base.specs.declared.fault.Fault.TheVariants as fault
+use Rattle.nm_base.specs.declared.limit.TheConstants.{MAX_ALL_FILES, MAX_FILE}
 use Rattle.nesc_macros.specs.Invocation.{Name}
 use Rattle.nesc_macros.specs.Expansion.{IsExpansionFault}
-use Rattle.nesc_preproc.specs.Sources.{Known, World, is_number, weight, with_file, sized_by, added, added_within, scanned_in, fetched_as, max_file, max_files}
+use Rattle.nesc_preproc.specs.Sources.{Known, World, is_number, weight, with_file, sized_by, added, added_within, scanned_in, fetched_as}
 use Rattle.nesc_preproc.specs.Kept.{Allows, IsNoReadFault, Breaks}
 use Rattle.nesc_preproc.specs.Expands.{IfMissing}
 
@@ -38,11 +39,11 @@ at_end (y ∷ xs) x d = at_end xs x d
 
 -- a text within the limits is kept and scanned
 pub new_file : (world : World) (built_in : Bool) (name : Name) (text : List ℕ) (bytes : ℕ) (known mid : Known)
-    → length text ≤ max_file → bytes ≡ known.bytes + weight built_in (length text) → bytes ≤ max_files → mid ≡ with_file name text bytes known
+    → length text ≤ MAX_FILE → bytes ≡ known.bytes + weight built_in (length text) → bytes ≤ MAX_ALL_FILES → mid ≡ with_file name text bytes known
     → fetched_as world built_in name (Ok text) known ≡ scanned_in world built_in (length known.texts) (slice_index_or mid.texts (length known.texts) []) mid
 new_file world built_in name text bytes known mid small is-bytes few is-mid =
-    let s : nat_lt max_file (length text) ≡ false = grind (arith, nat_tests) in
-    let f : nat_lt max_files bytes ≡ false = grind (arith, nat_tests) in
+    let s : nat_lt MAX_FILE (length text) ≡ false = grind (arith, nat_tests) in
+    let f : nat_lt MAX_ALL_FILES bytes ≡ false = grind (arith, nat_tests) in
     ap (λ t. sized_by t known (added world built_in name text (known.bytes + weight built_in (length text)) known)) s
     ∙ ap (λ n. added world built_in name text n known) (sym is-bytes)
     ∙ ap (λ t. added_within t world built_in name text bytes known) f

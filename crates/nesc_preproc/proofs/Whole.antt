@@ -79,7 +79,7 @@ whole_as told some broken old name value new only settles = record {
 
 -- what an answer that is a fault says of the reads
 abbrev pub Settled : Told → Lexable → Known → Name → Fault → KnownFiles → Type 0
-Settled told some old name e new = (broken : Option ℕ) → Allows {A = List Token} (Err e) broken (length new.texts.items)
+Settled told some old name e new = (broken : Option ℕ) → Allows {A = List Token} (Err e) broken (length new.files.texts)
     → Settles (λ n. file_expanded n (world_of told broken (lexing some)) old name) (record { value = Err e; known = known_of new })
 
 abbrev pub UnlessMemory : Fault → Type 0 → Type 0
@@ -90,7 +90,7 @@ pub fault_keeps : (told : Told) (some : Lexable) (old : Known) (name : Name) (e 
     → UnlessMemory e (Settled told some old name e new) → KeepsAs told old name (Err e) (known_of new)
 fault_keeps told some old name (fault.Refused r) new s = whole_as told some None old name (Err (fault.Refused r)) (known_of new) refl (s None refl)
 fault_keeps told some old name (fault.Missing n) new s = whole_as told some None old name (Err (fault.Missing n)) (known_of new) refl (s None refl)
-fault_keeps told some old name fault.ReadFault new s = whole_as told some (Some (length new.texts.items)) old name (Err fault.ReadFault) (known_of new) tt (s (Some (length new.texts.items)) refl)
+fault_keeps told some old name fault.ReadFault new s = whole_as told some (Some (length new.files.texts)) old name (Err fault.ReadFault) (known_of new) tt (s (Some (length new.files.texts)) refl)
 fault_keeps told some old name (fault.Limit l) new s = whole_as told some None old name (Err (fault.Limit l)) (known_of new) refl (s None refl)
 fault_keeps told some old name (fault.TooLarge r n) new s = whole_as told some None old name (Err (fault.TooLarge r n)) (known_of new) refl (s None refl)
 fault_keeps told some old name fault.NoMemory new s = tt
@@ -102,7 +102,7 @@ tokens_keep told some old name ts new settles = whole_as told some None old name
 
 -- opening the file is refused
 pub open_refused : (told : Told) (some : Lexable) (old : Known) (name : Name) (e : Fault) (new : KnownFiles)
-    → ((broken : Option ℕ) → Allows {A = Vec Token Global} (Err e) broken (length new.texts.items) → OpenedAs (Err e) new (opened (world_of told broken (lexing some)) old name))
+    → ((broken : Option ℕ) → Allows {A = Vec Token Global} (Err e) broken (length new.files.texts) → OpenedAs (Err e) new (opened (world_of told broken (lexing some)) old name))
     → UnlessMemory e (Settled told some old name e new)
 open_refused told some old name (fault.Refused r) new h = λ broken allows. open_settles (world_of told broken (lexing some)) old name (known_of new) _ (h broken allows)
 open_refused told some old name (fault.Missing n) new h = λ broken allows. open_settles (world_of told broken (lexing some)) old name (known_of new) _ (h broken allows)
@@ -122,10 +122,10 @@ from_start world s known ts r is-known macros conditionals rest outer out ends =
 
 -- the scan is refused
 pub run_refused : (told : Told) (some : Lexable) (old : Known) (name : Name) (e : Fault) (known : KnownFiles) (v : Vec Token Global) (start new : Scan)
-    → ((broken : Option ℕ) → BreaksFrom broken (length known.texts.items) → opened (world_of told broken (lexing some)) old name ≡ record { value = Ok v.items; known = known_of known })
+    → ((broken : Option ℕ) → BreaksFrom broken (length known.files.texts) → opened (world_of told broken (lexing some)) old name ≡ record { value = Ok v.items; known = known_of known })
     → ((world : World) (r : Scanned) → EndsFrom world start r → Ends world (start_of (known_of known)) (put_file v.items []) [] r)
-    → (e ≡ fault.ReadFault → length known.texts.items ≤ length new.context.known.texts.items)
-    → ((broken : Option ℕ) → Allows {A = Unit {0}} (Err e) broken (length new.context.known.texts.items) → RunsTo (Err e) (world_of told broken (lexing some)) start new)
+    → (e ≡ fault.ReadFault → length known.files.texts ≤ length new.context.known.files.texts)
+    → ((broken : Option ℕ) → Allows {A = Unit {0}} (Err e) broken (length new.context.known.files.texts) → RunsTo (Err e) (world_of told broken (lexing some)) start new)
     → UnlessMemory e (Settled told some old name e new.context.known)
 run_refused told some old name (fault.Refused r) known v start new opens starts fewer leads = λ broken allows.
     scan_settles (world_of told broken (lexing some)) old name (known_of known) v.items _ (opens broken (breaks_from (Unit {0}) (fault.Refused r) broken _ _ fewer allows)) (starts (world_of told broken (lexing some)) _ (leads broken allows))

@@ -1,12 +1,13 @@
 -- Answers of the code, and the outcomes that they stand for (own).
 use Rattle.std.specs.Prelude.{◌≡◌, ℕ, ◌≤◌, Bool, List, length, Option, Some, None, Result, OnOk, Ok, Err, Vec}
 use Rattle.std.specs.declared.alloc.Global.{Global}
+use Rattle.nm_base.specs.declared.limit.TheConstants.{MAX_TOKENS}
 use Rattle.nm_base.specs.declared.token.Token.{Token}
 use Rattle.nm_base.specs.Outside.{FilesSeen, IsReadBy}
 use Rattle.nesc_preproc.specs.Expands.{IfMissing}
 use Rattle.nm_base.specs.declared.fault.Fault.{Fault}
 use Rattle.nm_base.specs.declared.fault.Fault.TheVariants as fault
-use Rattle.nesc_macros.specs.Expansion.{Answer, Settles, max_tokens}
+use Rattle.nesc_macros.specs.Expansion.{Answer, Settles}
 use Rattle.nesc_preproc.specs.declared.context.Context.{Context}
 use Rattle.nesc_preproc.specs.Kept.{known_of}
 use Rattle.nesc_preproc.specs.Obeyed.{Situation, Outcome, goes_on, stops}
@@ -56,5 +57,5 @@ Counts r old new = IsReadBy (λ P. r ≡ Err fault.ReadFault → P) (IfMissing r
 
 -- no file is opened, and the count stays within its limit
 pub record KeepsFiles (r : Result (Unit {0}) Fault) (old new : Context) : Type 0 where
-  pub numbers : OnOk r (length new.known.texts.items ≡ length old.known.texts.items)
-  pub within : OnOk r (new.known.tokens ≤ max_tokens)
+  pub numbers : OnOk r (length new.known.files.texts ≡ length old.known.files.texts)
+  pub within : OnOk r (new.known.tokens ≤ MAX_TOKENS)

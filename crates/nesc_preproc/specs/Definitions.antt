@@ -1,9 +1,11 @@
 -- What a `#define` line defines, and which file an `#include` line names (C99 6.10.2, 6.10.3; own: no operators `#` and
 -- `##`, no variable arguments, file names taken as they are spelled).
-use Rattle.std.specs.Prelude.{◌+◌, ◌-◌, Bool, true, false, not, ◌&&◌, ◌||◌, List, [], ◌∷◌, ◌++◌, nat_eq, codes, length, take, drop, Option, Some, None}
+use Rattle.std.specs.Prelude.{ℕ, ◌+◌, ◌-◌, Bool, true, false, not, ◌&&◌, ◌||◌, List, [], ◌∷◌, ◌++◌, nat_eq, codes, length, slice_index_or, take, drop, Option, Some, None}
 use Rattle.std.specs.List.{list_any}
 use Rattle.nm_base.specs.declared.token.Kind.TheVariants.{Text}
 use Rattle.nm_base.specs.declared.token.Token.{Token}
+use Rattle.nm_base.specs.declared.pos.Pos.{Pos}
+use Rattle.nesc_tokens.specs.Joined.{is_joined}
 use Rattle.nesc_macros.specs.declared.definition.Macro.{Macro}
 use Rattle.nesc_preproc.specs.declared.definitions.NextParameter.{NextParameter}
 use Rattle.nesc_preproc.specs.declared.definitions.NextParameter.TheVariants.{Malformed, Last, More}
@@ -71,19 +73,22 @@ abbrev pub with_parameters : Name → List Token → Option Macro
 with_parameters name [] = None
 with_parameters name (t ∷ ts) = elim (is_sign (codes ")") t) [ true ↦ function_like name [] ts | false ↦ parameters_of name [] (t ∷ ts) ]
 
--- a parenthesis that touches the name opens a parameter list; whether one behind a line splice does is not told by places
-abbrev pub defined_behind : Token → List Token → Option Macro
-defined_behind name [] = object_like name.text []
-defined_behind name (t ∷ ts) =
-    elim (is_sign (codes "(") t && touches name t) [
-      | true ↦ with_parameters name.text ts
-      | false ↦ elim (is_sign (codes "(") t && is_spliced name t) [ true ↦ None | false ↦ object_like name.text (t ∷ ts) ]
-    ]
+-- whether a byte of these files stands at the place directly behind a word, with line splices between them
+abbrev pub joined_in : List (List ℕ) → Pos → Bool
+joined_in texts pos = is_joined (slice_index_or texts pos.file []) pos
+
+-- a parenthesis that touches the name opens a parameter list; `joined` tells it of those behind line splices
+abbrev pub opens_parameters : (Pos → Bool) → Token → Token → Bool
+opens_parameters joined name t = is_sign (codes "(") t && (touches name t || joined t.pos)
+
+abbrev pub defined_behind : (Pos → Bool) → Token → List Token → Option Macro
+defined_behind joined name [] = object_like name.text []
+defined_behind joined name (t ∷ ts) = elim (opens_parameters joined name t) [ true ↦ with_parameters name.text ts | false ↦ object_like name.text (t ∷ ts) ]
 
 -- the macro of the line behind `#define`
-abbrev pub defined_by : List Token → Option Macro
-defined_by [] = None
-defined_by (name ∷ ts) = elim (is_word name) [ true ↦ defined_behind name ts | false ↦ None ]
+abbrev pub defined_by : (Pos → Bool) → List Token → Option Macro
+defined_by joined [] = None
+defined_by joined (name ∷ ts) = elim (is_word name) [ true ↦ defined_behind joined name ts | false ↦ None ]
 
 -- the one word of a line
 abbrev pub only_word : List Token → Option Name

@@ -9,7 +9,7 @@ use Rattle.nesc_preproc.specs.declared.known.KnownFiles.{KnownFiles}
 use Rattle.nesc_preproc.specs.Sources.{Known, World, Opened, is_number}
 
 abbrev pub known_of : KnownFiles → Known
-known_of f = record { names = f.names.items; texts = f.texts.items; declared = f.declared.items; bytes = f.bytes; tokens = f.tokens }
+known_of f = record { names = f.files.names; texts = f.files.texts; declared = f.declared.keys; bytes = f.bytes; tokens = f.tokens }
 
 abbrev pub kept : Bool → KnownFiles → Option Known
 kept true files = None

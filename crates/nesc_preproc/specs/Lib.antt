@@ -11,3 +11,4 @@ pub mod Answers
 pub mod Scan
 pub mod Rows
 pub mod OneExpansion
+pub mod FileTables

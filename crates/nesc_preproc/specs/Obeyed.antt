@@ -16,7 +16,7 @@ use Rattle.nesc_preproc.specs.declared.directive.Directive.TheVariants as direct
 use Rattle.nesc_preproc.specs.declared.conditional.Conditional.{Conditional}
 use Rattle.nesc_preproc.specs.Lines.{directives_of}
 use Rattle.nesc_macros.specs.Tables.{without}
-use Rattle.nesc_preproc.specs.Definitions.{defined_by, only_word, included_by}
+use Rattle.nesc_preproc.specs.Definitions.{defined_by, joined_in, only_word, included_by}
 use Rattle.nesc_preproc.specs.Sources.{Known, World, Opened, with_count, opened}
 use Rattle.nesc_preproc.specs.Conditionals.{is_live, begun, skipped, at_group, else_at, end_at}
 
@@ -185,7 +185,7 @@ included world depth at s (Some name) = included_where (nat_le max_open depth) w
 
 -- one that is no conditional, in a part that is not skipped
 abbrev pub plain : World → ℕ → Pos → List Token → Situation → Directive → Outcome
-plain world depth at line s directive.Define = or_malformed at s (defining s (defined_by line))
+plain world depth at line s directive.Define = or_malformed at s (defining s (defined_by (joined_in s.known.texts) line))
 plain world depth at line s directive.Undef = or_malformed at s (undefining s (only_word line))
 plain world depth at line s directive.Include = included world depth at s (included_by line)
 plain world depth at line s directive.Error = stops (fault.Refused (refusal.HashError at)) s

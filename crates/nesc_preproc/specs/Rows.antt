@@ -114,11 +114,18 @@ abbrev pub includes_apart : List Token
 includes_apart =
     hash 1 ∷ w 1 2 (codes "include") ∷ s 1 10 (codes "<") ∷ w 1 11 (codes "b") ∷ w 1 13 (codes "b") ∷ s 1 14 (codes ".") ∷ w 1 15 (codes "h") ∷ s 1 16 (codes ">") ∷ []
 
--- #define f\
--- (x) x
+-- the same of one file with this text
+abbrev pub reads_text : List ℕ → List Token → Told
+reads_text text tokens = told (file_expanded 1000 (record { text_of = λ _. Some text; broken = None; lexed = λ _ _. Ok tokens }) nothing_known (codes "a.h"))
+
+abbrev pub spliced_text : List ℕ
+spliced_text = codes "#define f\\\n(x) x\nf(1)\n"
+
+-- its tokens
 abbrev pub spliced_parenthesis : List Token
 spliced_parenthesis =
-    hash 1 ∷ w 1 2 (codes "define") ∷ w 1 9 (codes "f") ∷ s 2 1 (codes "(") ∷ w 2 2 (codes "x") ∷ s 2 3 (codes ")") ∷ w 2 5 (codes "x") ∷ []
+    hash 1 ∷ w 1 2 (codes "define") ∷ w 1 9 (codes "f") ∷ s 2 1 (codes "(") ∷ w 2 2 (codes "x") ∷ s 2 3 (codes ")") ∷ w 2 5 (codes "x")
+    ∷ token true Word 3 1 (codes "f") ∷ s 3 2 (codes "(") ∷ n 3 3 (codes "1") ∷ s 3 4 (codes ")") ∷ []
 
 -- #define f \
 --  (x)
@@ -144,7 +151,7 @@ pub record WorkedRows : Type 0 where
   pub skipped_lines : reads (skips_nested ∷ []) ≡ Some (Ok (codes "p" ∷ []), 14)
   -- the tokens of a file's name touch
   pub apart : reads (includes_apart ∷ []) ≡ Some (Err (fault.Refused (refusal.BadDirective (record { file = 0; line = 1; col = 1 }))), 8)
-  -- behind a line splice a parenthesis and a second `#` may touch what stands before them
-  pub parenthesis_behind_splice : reads (spliced_parenthesis ∷ []) ≡ Some (Err (fault.Refused (refusal.BadDirective (record { file = 0; line = 1; col = 1 }))), 7)
+  -- behind a line splice a parenthesis touches the name, and a second `#` may touch the first
+  pub parenthesis_behind_splice : reads_text spliced_text spliced_parenthesis ≡ Some (Ok (codes "1" ∷ []), 12)
   pub blank_behind_splice : reads (spliced_blank ∷ []) ≡ Some (Ok (codes "(" ∷ codes "x" ∷ codes ")" ∷ []), 10)
   pub paste_behind_splice : reads (spliced_paste ∷ []) ≡ Some (Err (fault.Refused (refusal.BadDirective (record { file = 0; line = 1; col = 1 }))), 6)

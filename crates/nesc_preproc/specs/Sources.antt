@@ -1,5 +1,6 @@
 -- Which files are read, and what a file puts before the scan (own).
 use Rattle.std.specs.Prelude.{ℕ, ◌+◌, Bool, true, false, List, [], ◌∷◌, ◌++◌, nat_eq, nat_lt, length, Option, Some, None, Result, Ok, Err}
+use Rattle.nm_base.specs.declared.limit.TheConstants.{MAX_ALL_FILES, MAX_FILE, MAX_TOKENS}
 use Rattle.nm_base.specs.declared.token.Token.{Token}
 use Rattle.nm_base.specs.declared.refusal.Refusal.{Refusal}
 use Rattle.nm_base.specs.declared.fault.Fault.{Fault}
@@ -7,7 +8,7 @@ use Rattle.nm_base.specs.declared.fault.Fault.TheVariants as fault
 use Rattle.nm_base.specs.declared.limit.Which.TheVariants as which
 use Rattle.nesc_tokens.specs.Lexes.{Lexes, IsRefused}
 use Rattle.nesc_macros.specs.Invocation.{Name, same_name}
-use Rattle.nesc_macros.specs.Expansion.{max_tokens, too_many}
+use Rattle.nesc_macros.specs.Expansion.{too_many}
 use Rattle.nesc_preproc.specs.BuiltIn.{built_in_text, is_built_in}
 
 -- what is kept from one expansion to the next: the files that were read, in this order, with their bytes; the headers whose
@@ -59,17 +60,11 @@ built_in_or None asked = asked
 abbrev pub fetched : World → ℕ → Name → Result (List ℕ) Fault
 fetched world k name = built_in_or (built_in_text name) (content (is_number world.broken k) name (world.text_of name))
 
-abbrev pub max_file : ℕ
-max_file = 262144
-
-abbrev pub max_files : ℕ
-max_files = 4194304
-
 abbrev pub file_too_large : Fault
-file_too_large = fault.Limit (record { which = which.File; have = max_file + 1 })
+file_too_large = fault.Limit (record { which = which.File; have = MAX_FILE + 1 })
 
 abbrev pub files_too_large : Fault
-files_too_large = fault.Limit (record { which = which.AllFiles; have = max_files + 1 })
+files_too_large = fault.Limit (record { which = which.AllFiles; have = MAX_ALL_FILES + 1 })
 
 -- the tokens of a file, or why there are none, and what is kept by then
 pub record Opened : Type 0 where
@@ -94,7 +89,7 @@ weight false n = n
 
 abbrev pub counted : Bool → Result (List Token) Refusal → Known → Opened
 counted built_in (Err refusal) known = closed_for (fault.Refused refusal) known
-counted built_in (Ok tokens) known = counted_by (nat_lt max_tokens (known.tokens + weight built_in (length tokens))) (weight built_in (length tokens)) tokens known
+counted built_in (Ok tokens) known = counted_by (nat_lt MAX_TOKENS (known.tokens + weight built_in (length tokens))) (weight built_in (length tokens)) tokens known
 
 abbrev pub scanned_in : World → Bool → ℕ → List ℕ → Known → Opened
 scanned_in world built_in k text known = counted built_in (world.lexed k text) known
@@ -104,7 +99,7 @@ sized_by true known go = closed_for file_too_large known
 sized_by false known go = go
 
 abbrev pub sized : List ℕ → Known → Opened → Opened
-sized text known go = sized_by (nat_lt max_file (length text)) known go
+sized text known go = sized_by (nat_lt MAX_FILE (length text)) known go
 
 abbrev pub with_file : Name → List ℕ → ℕ → Known → Known
 with_file name text bytes known = record { names = known.names ++ name ∷ []; texts = known.texts ++ text ∷ []; declared = known.declared; bytes = bytes; tokens = known.tokens }
@@ -114,7 +109,7 @@ added_within true world built_in name text bytes known = closed_for files_too_la
 added_within false world built_in name text bytes known = scanned_in world built_in (length known.texts) text (with_file name text bytes known)
 
 abbrev pub added : World → Bool → Name → List ℕ → ℕ → Known → Opened
-added world built_in name text bytes known = added_within (nat_lt max_files bytes) world built_in name text bytes known
+added world built_in name text bytes known = added_within (nat_lt MAX_ALL_FILES bytes) world built_in name text bytes known
 
 abbrev pub fetched_as : World → Bool → Name → Result (List ℕ) Fault → Known → Opened
 fetched_as world built_in name (Err e) known = closed_for e known

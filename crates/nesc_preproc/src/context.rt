@@ -1,7 +1,7 @@
 //! What directives change.
 
 ghost use Rattle.std.specs.Prelude.{◌≡◌, ◌∷◌, ◌≤◌, drop, OnOk};
-ghost use Rattle.nesc_macros.specs.Expansion.{max_tokens};
+ghost use Rattle.nm_base.specs.declared.limit.TheConstants.{MAX_TOKENS};
 ghost use Rattle.nesc_preproc.specs.Obeyed.{asked, malformed, opening, truth_of, with_conditionals, with_tokens};
 ghost use Rattle.nesc_preproc.specs.Kept.{IsNoReadFault};
 ghost use Rattle.nesc_preproc.specs.Answers.{Asks, situation_of};
@@ -58,10 +58,10 @@ impl Context {
 
     /// Whether the condition of a line holds. The replacements in it are counted.
     pub fn holds(&mut self, alloc: Global, pos: Pos, line: &[Token]) -> Result<bool, Fault>
-        requires within { self.old.known.tokens ≤ max_tokens }
+        requires within { self.old.known.tokens ≤ MAX_TOKENS }
         ensures asked { Asks result self.new.known.tokens (λ steps. asked steps self.old.macros self.old.known.tokens pos line.now) }
         ensures kept { situation_of self.new ≡ with_tokens (situation_of self.old) self.new.known.tokens }
-        ensures within { self.new.known.tokens ≤ max_tokens }
+        ensures within { self.new.known.tokens ≤ MAX_TOKENS }
         ensures read { IsNoReadFault result }
     {
         let Some(resolved) = resolve_defined(alloc, &self.macros, line)? else {

@@ -1,9 +1,10 @@
 //! `#define` lines, and the files that `#include` lines name.
 
-ghost use Rattle.std.specs.Prelude.{◌≡◌, ◌-◌, ◌&&◌, not, [], length, take, drop, codes, IfOk, option_copied};
+ghost use Rattle.std.specs.Prelude.{◌≡◌, ◌-◌, ◌&&◌, not, [], length, take, drop, IfOk, option_copied};
 ghost use Rattle.nesc_macros.specs.Invocation.{is_among, is_word, is_sign};
-ghost use Rattle.nesc_preproc.specs.Definitions.{touches, is_spliced, may_touch, is_hash, has_hash, has_paste, with_replacement, object_like, function_like, next_parameter, parameters_of, with_parameters, defined_behind, defined_by, only_word, angled, quoted, included_by};
+ghost use Rattle.nesc_preproc.specs.Definitions.{touches, is_spliced, may_touch, is_hash, has_hash, has_paste, with_replacement, object_like, function_like, next_parameter, parameters_of, with_parameters, joined_in, opens_parameters, defined_behind, defined_by, only_word, angled, quoted, included_by};
 
+use crate::file_table::FileTable;
 use nesc_macros::{Macro, is_among, is_sign, is_word};
 use nm_base::{Kind, List, Name, NoMemory, Token};
 use std::alloc::Global;
@@ -161,30 +162,26 @@ fn with_parameters(alloc: Global, name: &Name, tokens: &[Token]) -> Result<Optio
     }
 }
 
-// Whether a line splice hides whether the token opens the parameter list of a macro of this name.
-fn may_open_parameters(name: &Token, token: &Token) -> bool
-    ensures { result ≡ (is_sign (codes "(") token.now && is_spliced name.now token.now) }
-{
-    is_sign(b"(", token) && is_spliced(name, token)
-}
-
 // Whether the token opens the parameter list of a macro of this name.
-fn opens_parameters(name: &Token, token: &Token) -> bool
-    ensures { result ≡ (is_sign (codes "(") token.now && touches name.now token.now) }
+fn opens_parameters(files: &FileTable, name: &Token, token: &Token) -> bool
+    ensures { result ≡ opens_parameters (joined_in files.now.texts) name.now token.now }
 {
-    is_sign(b"(", token) && touches(name, token)
+    is_sign(b"(", token) && (touches(name, token) || files.is_joined(token.pos))
 }
 
-fn defined_behind(alloc: Global, name: &Token, tokens: &[Token]) -> Result<Option<Macro>, NoMemory>
-    ensures { IfOk result (λ m. m ≡ defined_behind name.now tokens.now) }
+fn defined_behind(
+    alloc: Global,
+    files: &FileTable,
+    name: &Token,
+    tokens: &[Token],
+) -> Result<Option<Macro>, NoMemory>
+    ensures { IfOk result (λ m. m ≡ defined_behind (joined_in files.now.texts) name.now tokens.now) }
 {
     match tokens {
         [] => object_like(alloc, &name.text, tokens),
         [first, after @ ..] => {
-            if opens_parameters(name, first) {
+            if opens_parameters(files, name, first) {
                 with_parameters(alloc, &name.text, after)
-            } else if may_open_parameters(name, first) {
-                Ok(None)
             } else {
                 object_like(alloc, &name.text, tokens)
             }
@@ -192,15 +189,19 @@ fn defined_behind(alloc: Global, name: &Token, tokens: &[Token]) -> Result<Optio
     }
 }
 
-/// The macro of the line behind `#define`; None where it is malformed.
-pub(crate) fn defined_by(alloc: Global, line: &[Token]) -> Result<Option<Macro>, NoMemory>
-    ensures { IfOk result (λ m. m ≡ defined_by line.now) }
+/// The macro of the line behind `#define`, in one of these files; None where it is malformed.
+pub(crate) fn defined_by(
+    alloc: Global,
+    files: &FileTable,
+    line: &[Token],
+) -> Result<Option<Macro>, NoMemory>
+    ensures { IfOk result (λ m. m ≡ defined_by (joined_in files.now.texts) line.now) }
 {
     match line {
         [] => Ok(None),
         [name, after @ ..] => {
             if is_word(name) {
-                defined_behind(alloc, name, after)
+                defined_behind(alloc, files, name, after)
             } else {
                 Ok(None)
             }

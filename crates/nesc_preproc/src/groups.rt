@@ -1,7 +1,7 @@
 //! Directives of conditionals.
 
 ghost use Rattle.std.specs.Prelude.{◌≡◌, ◌≤◌, true};
-ghost use Rattle.nesc_macros.specs.Expansion.{max_tokens};
+ghost use Rattle.nm_base.specs.declared.limit.TheConstants.{MAX_TOKENS};
 ghost use Rattle.nesc_preproc.specs.Conditionals.{else_at, end_at, is_live};
 ghost use Rattle.nesc_preproc.specs.Obeyed.{by_name, elif_at, if_live, grouped, ifdef_live, or_malformed, regrouped};
 ghost use Rattle.nesc_preproc.specs.Kept.{IsNoReadFault};
@@ -16,7 +16,7 @@ use std::alloc::Global;
 
 // `#if`.
 fn begin_if(alloc: Global, context: &mut Context, pos: Pos, line: &[Token]) -> Result<(), Fault>
-    requires within { context.old.known.tokens ≤ max_tokens }
+    requires within { context.old.known.tokens ≤ MAX_TOKENS }
     ensures obeyed { ObeysIn result context.new (λ steps. if_live steps pos line.now (situation_of context.old) (is_live context.old.conditionals.items)) }
     ensures kept { KeepsFiles result context.old context.new }
     ensures read { IsNoReadFault result }
@@ -32,7 +32,7 @@ fn begin_if(alloc: Global, context: &mut Context, pos: Pos, line: &[Token]) -> R
 
 // `#ifdef`, where the name is wanted, and `#ifndef`.
 fn begin_ifdef(context: &mut Context, pos: Pos, line: &[Token], wanted: bool) -> Result<(), Fault>
-    requires within { context.old.known.tokens ≤ max_tokens }
+    requires within { context.old.known.tokens ≤ MAX_TOKENS }
     ensures obeyed { ObeysIn result context.new (λ steps. ifdef_live wanted pos line.now (situation_of context.old) (is_live context.old.conditionals.items)) }
     ensures kept { KeepsFiles result context.old context.new }
     ensures read { IsNoReadFault result }
@@ -51,7 +51,7 @@ fn begin_ifdef(context: &mut Context, pos: Pos, line: &[Token], wanted: bool) ->
 
 // `#elif`.
 fn go_to_elif(alloc: Global, context: &mut Context, pos: Pos, line: &[Token]) -> Result<(), Fault>
-    requires within { context.old.known.tokens ≤ max_tokens }
+    requires within { context.old.known.tokens ≤ MAX_TOKENS }
     ensures obeyed { ObeysIn result context.new (λ steps. elif_at steps pos line.now (situation_of context.old) context.old.conditionals.items) }
     ensures kept { KeepsFiles result context.old context.new }
     ensures read { IsNoReadFault result }
@@ -73,7 +73,7 @@ fn go_to_elif(alloc: Global, context: &mut Context, pos: Pos, line: &[Token]) ->
 
 // `#else`.
 fn go_to_else(context: &mut Context, pos: Pos, line: &[Token]) -> Result<(), Fault>
-    requires within { context.old.known.tokens ≤ max_tokens }
+    requires within { context.old.known.tokens ≤ MAX_TOKENS }
     ensures obeyed { Obeys result context.new (or_malformed pos (situation_of context.old) (regrouped (situation_of context.old) (else_at context.old.conditionals.items line.now))) }
     ensures kept { KeepsFiles result context.old context.new }
     ensures read { IsNoReadFault result }
@@ -87,7 +87,7 @@ fn go_to_else(context: &mut Context, pos: Pos, line: &[Token]) -> Result<(), Fau
 
 // `#endif`.
 fn end_if(context: &mut Context, pos: Pos, line: &[Token]) -> Result<(), Fault>
-    requires within { context.old.known.tokens ≤ max_tokens }
+    requires within { context.old.known.tokens ≤ MAX_TOKENS }
     ensures obeyed { Obeys result context.new (or_malformed pos (situation_of context.old) (regrouped (situation_of context.old) (end_at context.old.conditionals.items line.now))) }
     ensures kept { KeepsFiles result context.old context.new }
     ensures read { IsNoReadFault result }
@@ -108,7 +108,7 @@ pub(crate) fn obey_conditional(
     pos: Pos,
     line: &[Token],
 ) -> Result<(), Fault>
-    requires within { context.old.known.tokens ≤ max_tokens }
+    requires within { context.old.known.tokens ≤ MAX_TOKENS }
     ensures obeyed { ObeysIn result context.new (λ steps. grouped steps pos line.now (situation_of context.old) directive) }
     ensures kept { KeepsFiles result context.old context.new }
     ensures read { IsNoReadFault result }

@@ -1,8 +1,8 @@
 //! Obeying a directive.
 
 ghost use Rattle.std.specs.Prelude.{◌≡◌, ◌<◌, ◌≤◌, length, Err, OnOk, IfOk, IfSome};
-ghost use Rattle.nesc_macros.specs.Expansion.{max_tokens};
-ghost use Rattle.nesc_preproc.specs.Definitions.{defined_by, included_by, only_word};
+ghost use Rattle.nm_base.specs.declared.limit.TheConstants.{MAX_TOKENS};
+ghost use Rattle.nesc_preproc.specs.Definitions.{defined_by, joined_in, included_by, only_word};
 ghost use Rattle.nesc_preproc.specs.Sources.{World, IsLexing};
 ghost use Rattle.nesc_preproc.specs.Obeyed.{defining, included, max_open, obeyed, or_malformed, plain, undefining};
 ghost use Rattle.nesc_preproc.specs.Kept.{Allows, IsNoReadFault, IsTold};
@@ -15,7 +15,6 @@ use crate::directive::Directive;
 use crate::groups::obey_conditional;
 use crate::lines::directives_of;
 use crate::sources::open_file;
-use nesc_macros::is_among;
 use nm_base::{Fault, Files, Pos, Refusal, Token};
 use std::alloc::Global;
 
@@ -24,10 +23,10 @@ const MAX_OPEN: usize = 200;
 
 // `#define`.
 fn define(alloc: Global, context: &mut Context, pos: Pos, line: &[Token]) -> Result<(), Fault>
-    ensures obeyed { Obeys result context.new (or_malformed pos (situation_of context.old) (defining (situation_of context.old) (defined_by line.now))) }
+    ensures obeyed { Obeys result context.new (or_malformed pos (situation_of context.old) (defining (situation_of context.old) (defined_by (joined_in context.old.known.files.texts) line.now))) }
     ensures read { IsNoReadFault result }
 {
-    let Some(definition) = defined_by(alloc, line)? else {
+    let Some(definition) = defined_by(alloc, &context.known.files, line)? else {
         return Err(malformed(pos));
     };
     context.macros.define(alloc, definition)?;
@@ -58,11 +57,11 @@ fn include<F: Files>(
     line: &[Token],
 ) -> Result<Vec<Token>, Fault>
     ensures outside { Counts result (F.seen files.old) (F.seen files.new) }
-    ensures included { (world : World) → IsTold (F.seen files.old).texts world → IsLexing world.lexed → Allows result world.broken (length context.new.known.texts.items)
+    ensures included { (world : World) → IsTold (F.seen files.old).texts world → IsLexing world.lexed → Allows result world.broken (length context.new.known.files.texts)
         → Includes result context.new (included world depth pos (situation_of context.old) (included_by line.now)) }
-    ensures numbers { OnOk result (length context.old.known.texts.items ≤ length context.new.known.texts.items) }
-    ensures unread { result ≡ Err Fault.ReadFault → length context.old.known.texts.items ≤ length context.new.known.texts.items }
-    ensures within { OnOk result (context.new.known.tokens ≤ max_tokens) }
+    ensures numbers { OnOk result (length context.old.known.files.texts ≤ length context.new.known.files.texts) }
+    ensures unread { result ≡ Err Fault.ReadFault → length context.old.known.files.texts ≤ length context.new.known.files.texts }
+    ensures within { OnOk result (context.new.known.tokens ≤ MAX_TOKENS) }
     ensures depth { OnOk result (depth < max_open) }
 {
     let Some(name) = included_by(alloc, line)? else {
@@ -72,10 +71,10 @@ fn include<F: Files>(
         return Err(Fault::Refused(Refusal::IncludeLoop(pos)));
     }
     let tokens = open_file(alloc, files, &mut context.known, &name)?;
-    if is_among(context.known.declared.as_slice(), &name) {
+    if context.known.is_declared(&name)? {
         return Ok(directives_of(alloc, tokens)?);
     }
-    context.known.declared.push(name)?;
+    context.known.declare(&name)?;
     Ok(tokens)
 }
 
@@ -90,13 +89,13 @@ fn obey_plain<F: Files>(
     pos: Pos,
     line: &[Token],
 ) -> Result<Option<Vec<Token>>, Fault>
-    requires within { context.old.known.tokens ≤ max_tokens }
+    requires within { context.old.known.tokens ≤ MAX_TOKENS }
     ensures outside { Counts result (F.seen files.old) (F.seen files.new) }
-    ensures obeyed { (world : World) → IsTold (F.seen files.old).texts world → IsLexing world.lexed → Allows result world.broken (length context.new.known.texts.items)
+    ensures obeyed { (world : World) → IsTold (F.seen files.old).texts world → IsLexing world.lexed → Allows result world.broken (length context.new.known.files.texts)
         → Gives result context.new (plain world depth pos line.now (situation_of context.old) directive) }
-    ensures numbers { OnOk result (length context.old.known.texts.items ≤ length context.new.known.texts.items) }
-    ensures unread { result ≡ Err Fault.ReadFault → length context.old.known.texts.items ≤ length context.new.known.texts.items }
-    ensures within { OnOk result (context.new.known.tokens ≤ max_tokens) }
+    ensures numbers { OnOk result (length context.old.known.files.texts ≤ length context.new.known.files.texts) }
+    ensures unread { result ≡ Err Fault.ReadFault → length context.old.known.files.texts ≤ length context.new.known.files.texts }
+    ensures within { OnOk result (context.new.known.tokens ≤ MAX_TOKENS) }
     ensures depth { IfOk result (λ header. IfSome header (λ _. depth < max_open)) }
 {
     match directive {
@@ -123,13 +122,13 @@ pub(crate) fn obey<F: Files>(
     pos: Pos,
     line: &[Token],
 ) -> Result<Option<Vec<Token>>, Fault>
-    requires within { context.old.known.tokens ≤ max_tokens }
+    requires within { context.old.known.tokens ≤ MAX_TOKENS }
     ensures outside { Counts result (F.seen files.old) (F.seen files.new) }
-    ensures obeyed { (world : World) → IsTold (F.seen files.old).texts world → IsLexing world.lexed → Allows result world.broken (length context.new.known.texts.items)
+    ensures obeyed { (world : World) → IsTold (F.seen files.old).texts world → IsLexing world.lexed → Allows result world.broken (length context.new.known.files.texts)
         → GivesIn result context.new (λ steps. obeyed steps world depth pos line.now (situation_of context.old)) }
-    ensures numbers { OnOk result (length context.old.known.texts.items ≤ length context.new.known.texts.items) }
-    ensures unread { result ≡ Err Fault.ReadFault → length context.old.known.texts.items ≤ length context.new.known.texts.items }
-    ensures within { OnOk result (context.new.known.tokens ≤ max_tokens) }
+    ensures numbers { OnOk result (length context.old.known.files.texts ≤ length context.new.known.files.texts) }
+    ensures unread { result ≡ Err Fault.ReadFault → length context.old.known.files.texts ≤ length context.new.known.files.texts }
+    ensures within { OnOk result (context.new.known.tokens ≤ MAX_TOKENS) }
     ensures depth { IfOk result (λ header. IfSome header (λ _. depth < max_open)) }
 {
     let Some((name, line)) = line.split_first() else {

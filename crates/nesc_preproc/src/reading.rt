@@ -45,6 +45,6 @@ impl Reading {
         if self.spent {
             return None;
         }
-        self.files.names.get(file as usize)
+        self.files.files.name(file as usize)
     }
 }

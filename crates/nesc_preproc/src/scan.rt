@@ -1,7 +1,7 @@
 //! The scan of open files.
 
 ghost use Rattle.std.specs.Prelude.{◌≡◌, ◌+◌, ◌∷◌, ◌<◌, ◌≤◌, [], true, false, length, Err, OnOk};
-ghost use Rattle.nesc_macros.specs.Expansion.{max_tokens};
+ghost use Rattle.nm_base.specs.declared.limit.TheConstants.{MAX_TOKENS};
 ghost use Rattle.nesc_preproc.specs.Lines.{begins_directive};
 ghost use Rattle.nesc_preproc.specs.Sources.{World, IsLexing};
 ghost use Rattle.nesc_preproc.specs.Obeyed.{max_open};
@@ -86,13 +86,13 @@ impl Scan {
         hash: Token,
     ) -> Result<(), Fault>
         requires directive { begins_directive hash ≡ true }
-        requires within { self.old.context.known.tokens ≤ max_tokens }
+        requires within { self.old.context.known.tokens ≤ MAX_TOKENS }
         requires depth { length self.old.outer.items < max_open }
         ensures outside { Counts result (F.seen files.old) (F.seen files.new) }
-        ensures leads { (world : World) → IsTold (F.seen files.old).texts world → IsLexing world.lexed → Allows result world.broken (length self.new.context.known.texts.items) → LeadsBehind result world hash self.old self.new }
-        ensures numbers { OnOk result (length self.old.context.known.texts.items ≤ length self.new.context.known.texts.items) }
-        ensures unread { result ≡ Err Fault.ReadFault → length self.old.context.known.texts.items ≤ length self.new.context.known.texts.items }
-        ensures within { OnOk result (self.new.context.known.tokens ≤ max_tokens) }
+        ensures leads { (world : World) → IsTold (F.seen files.old).texts world → IsLexing world.lexed → Allows result world.broken (length self.new.context.known.files.texts) → LeadsBehind result world hash self.old self.new }
+        ensures numbers { OnOk result (length self.old.context.known.files.texts ≤ length self.new.context.known.files.texts) }
+        ensures unread { result ≡ Err Fault.ReadFault → length self.old.context.known.files.texts ≤ length self.new.context.known.files.texts }
+        ensures within { OnOk result (self.new.context.known.tokens ≤ MAX_TOKENS) }
         ensures depth { OnOk result (length self.new.outer.items < max_open) }
         ensures size { OnOk result (size_of self.new < size_with self.old (length self.old.rest.items + 1)) }
     {
@@ -107,11 +107,11 @@ impl Scan {
     // Expands the ordinary tokens from this one on, up to the next directive or the end of the file, or skips them.
     fn expand_run(&mut self, alloc: Global, first: Token) -> Result<(), Fault>
         requires plain { begins_directive first ≡ false }
-        requires within { self.old.context.known.tokens ≤ max_tokens }
+        requires within { self.old.context.known.tokens ≤ MAX_TOKENS }
         ensures leads { (world : World) → LeadsBehind result world first self.old self.new }
         ensures read { IsNoReadFault result }
-        ensures numbers { length self.new.context.known.texts.items ≡ length self.old.context.known.texts.items }
-        ensures within { self.new.context.known.tokens ≤ max_tokens }
+        ensures numbers { length self.new.context.known.files.texts ≡ length self.old.context.known.files.texts }
+        ensures within { self.new.context.known.tokens ≤ MAX_TOKENS }
         ensures outer { self.new.outer ≡ self.old.outer }
         ensures size { OnOk result (length self.new.rest.items ≤ length self.old.rest.items) }
     {
@@ -152,13 +152,13 @@ impl Scan {
     /// Takes a directive, a run of ordinary tokens, or the end of a file, and answers whether a file is left.
     #[tactic(auto, using(crate::proofs::Opening::no_read_fault))]
     pub fn step<F: Files>(&mut self, alloc: Global, files: &mut F) -> Result<bool, Fault>
-        requires within { self.old.context.known.tokens ≤ max_tokens }
+        requires within { self.old.context.known.tokens ≤ MAX_TOKENS }
         requires depth { length self.old.outer.items < max_open }
         ensures outside { Counts result (F.seen files.old) (F.seen files.new) }
-        ensures leads { (world : World) → IsTold (F.seen files.old).texts world → IsLexing world.lexed → Allows result world.broken (length self.new.context.known.texts.items) → Leads result world self.old self.new }
-        ensures numbers { OnOk result (length self.old.context.known.texts.items ≤ length self.new.context.known.texts.items) }
-        ensures unread { result ≡ Err Fault.ReadFault → length self.old.context.known.texts.items ≤ length self.new.context.known.texts.items }
-        ensures within { OnOk result (self.new.context.known.tokens ≤ max_tokens) }
+        ensures leads { (world : World) → IsTold (F.seen files.old).texts world → IsLexing world.lexed → Allows result world.broken (length self.new.context.known.files.texts) → Leads result world self.old self.new }
+        ensures numbers { OnOk result (length self.old.context.known.files.texts ≤ length self.new.context.known.files.texts) }
+        ensures unread { result ≡ Err Fault.ReadFault → length self.old.context.known.files.texts ≤ length self.new.context.known.files.texts }
+        ensures within { OnOk result (self.new.context.known.tokens ≤ MAX_TOKENS) }
         ensures depth { OnOk result (length self.new.outer.items < max_open) }
         ensures size { Smaller result self.new (size_of self.old) }
     {
@@ -175,11 +175,11 @@ impl Scan {
 
     /// Takes all steps.
     pub fn run<F: Files>(&mut self, alloc: Global, files: &mut F) -> Result<(), Fault>
-        requires within { self.old.context.known.tokens ≤ max_tokens }
+        requires within { self.old.context.known.tokens ≤ MAX_TOKENS }
         requires depth { length self.old.outer.items < max_open }
         ensures outside { Counts result (F.seen files.old) (F.seen files.new) }
-        ensures leads { (world : World) → IsTold (F.seen files.old).texts world → IsLexing world.lexed → Allows result world.broken (length self.new.context.known.texts.items) → RunsTo result world self.old self.new }
-        ensures unread { result ≡ Err Fault.ReadFault → length self.old.context.known.texts.items ≤ length self.new.context.known.texts.items }
+        ensures leads { (world : World) → IsTold (F.seen files.old).texts world → IsLexing world.lexed → Allows result world.broken (length self.new.context.known.files.texts) → RunsTo result world self.old self.new }
+        ensures unread { result ≡ Err Fault.ReadFault → length self.old.context.known.files.texts ≤ length self.new.context.known.files.texts }
     {
         while self.step(alloc, files)? {}
         Ok(())

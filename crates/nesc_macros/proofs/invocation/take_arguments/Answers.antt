@@ -1,57 +1,50 @@
-use Rattle.std.proofs.Common.{◌≡◌, ◌++◌, ◌∷◌, [], List, map, sym, ap, ◌∙◌, rules, Some, length, arith}
-use Rattle.nesc_macros.specs.declared.definition.NumberedToken.{NumberedToken}
-use Rattle.nesc_macros.specs.Invocation.{PreprocessingToken, actuals}
-use Rattle.nesc_macros.specs.Numbers.{no_scope, shown, all_shown}
-use Rattle.nesc_macros.proofs.Naming.{shown_push, shown_push_list, weight_push}
-use Rattle.nesc_macros.specs.Code.{weight_of_lists}
+use Rattle.std.proofs.Common.{◌∙◌, Some, length, sym, ap, arith}
+use Rattle.nesc_macros.specs.Groups.{IsArgumentEnd}
+use Rattle.nesc_macros.proofs.Grouped.{TakesOne, takes_last, takes_lighter, takes_next, takes_shorter, length_dropped}
+use Rattle.nesc_macros.proofs.Turns.{none_left}
 use Rattle.nesc_macros.proofs.invocation.take_arguments.Goals as goal
 
-pub overflow_sub-depth : goal.overflow_sub-depth
-overflow_sub-depth c = let h = rw c.in-Closes.is at c.mark_of.ensures in (h no_scope [] [] []).0
+pub returns-in_default-pop_front-clause-taken : goal.returns-in_default-pop_front-clause-taken
+returns-in_default-pop_front-clause-taken c scope =
+    let e : IsArgumentEnd c.loop-end.pending (Some c.in-Some.end) = rw c.in-Some.is at c.argument_end.ensures in
+    let none = none_left c.take_first.new.self c.pop_front.new.self c.in_default-pop_front.ensures.items c.pop_front.ensures.rest in
+    absurd (omega (arith, e.0, ap length none, ap length c.in_ok-take_first.ensures.others, length_dropped c.in-Some.end.len c.loop-end.pending (omega (arith, e.0))))
 
-pub returns-in-Ends-clause-taken : goal.returns-in-Ends-clause-taken
-returns-in-Ends-clause-taken c scope =
-    let h = rw c.in-Ends.is at c.mark_of.ensures in
-    let list = c.loop-token.list.items in
-    let lists = c.loop-token.lists.items in
-    let pushed : map (all_shown scope) c.push_back.new.self.items ≡ map (all_shown scope) lists ++ all_shown scope list ∷ [] =
-    ap (map (all_shown scope)) (c.in_ok-push_back-in-Ends.ensures.items ∙ ap (λ (l : List NumberedToken). lists ++ l ∷ []) c.new.ensures) ∙ shown_push_list scope lists list in
-    sym (c.loop-token.invariant.steps scope)
-    ∙ ap (λ (l : List NumberedToken). actuals c.loop-token.depth (all_shown scope list) (map (all_shown scope) lists) (all_shown scope l)) c.in-Some.ensures.items
-    ∙ h scope (all_shown scope list) (map (all_shown scope) lists) (all_shown scope c.pop_front.new.self.items)
-    ∙ (λ i. Some (record { arguments = sym pushed i; close = shown scope c.in-Some.token; rest = all_shown scope (sym c.release_room.ensures i) }))
+pub returns-then-end-clause-taken : goal.returns-then-end-clause-taken
+returns-then-end-clause-taken c scope =
+    let t : TakesOne c.loop-end.pending c.in-Some.end c.in_ok-take_first.field-0 c.in-Some-pop_front.sign c.pop_front.new.self = record {
+      ended = rw c.in-Some.is at c.argument_end.ensures;
+      first-is = c.in_ok-take_first.ensures.first;
+      behind = sym c.in_ok-take_first.ensures.others ∙ c.in-Some-pop_front.ensures.items;
+    } in
+    sym (c.loop-end.invariant.steps scope) ∙ takes_last c.loop-end.pending c.in-Some.end c.in_ok-take_first.field-0 c.pop_front.new.self c.in-Some-pop_front.sign c.loop-end.lists.items c.push_back.new.self.items t c.if-end.true c.in_ok-push_back.ensures.items scope
 
-pub loop-token-preserved-in-Separates-1 : goal.loop-token-preserved-in-Separates-1
-loop-token-preserved-in-Separates-1 c =
-    let h = rw c.in-Separates.is at c.mark_of.ensures in
-    let list = c.loop-token.list.items in
-    let lists = c.loop-token.lists.items in
-    let rest = c.pop_front.new.self.items in
+pub returns-then-end-clause-less : goal.returns-then-end-clause-less
+returns-then-end-clause-less c =
+    let t : TakesOne c.loop-end.pending c.in-Some.end c.in_ok-take_first.field-0 c.in-Some-pop_front.sign c.pop_front.new.self = record {
+      ended = rw c.in-Some.is at c.argument_end.ensures;
+      first-is = c.in_ok-take_first.ensures.first;
+      behind = sym c.in_ok-take_first.ensures.others ∙ c.in-Some-pop_front.ensures.items;
+    } in
+    omega (arith, takes_lighter c.loop-end.pending c.in-Some.end c.in_ok-take_first.field-0 c.pop_front.new.self c.in-Some-pop_front.sign c.loop-end.lists.items c.push_back.new.self.items t c.in_ok-push_back.ensures.items, c.loop-end.invariant.weight)
+
+pub loop-end-smaller : goal.loop-end-smaller
+loop-end-smaller c =
+    let t : TakesOne c.loop-end.pending c.in-Some.end c.in_ok-take_first.field-0 c.in-Some-pop_front.sign c.pop_front.new.self = record {
+      ended = rw c.in-Some.is at c.argument_end.ensures;
+      first-is = c.in_ok-take_first.ensures.first;
+      behind = sym c.in_ok-take_first.ensures.others ∙ c.in-Some-pop_front.ensures.items;
+    } in
+    takes_shorter c.loop-end.pending c.in-Some.end c.in_ok-take_first.field-0 c.pop_front.new.self c.in-Some-pop_front.sign t
+
+pub loop-end-preserved : goal.loop-end-preserved
+loop-end-preserved c =
+    let t : TakesOne c.loop-end.pending c.in-Some.end c.in_ok-take_first.field-0 c.in-Some-pop_front.sign c.pop_front.new.self = record {
+      ended = rw c.in-Some.is at c.argument_end.ensures;
+      first-is = c.in_ok-take_first.ensures.first;
+      behind = sym c.in_ok-take_first.ensures.others ∙ c.in-Some-pop_front.ensures.items;
+    } in
     record {
-      depth = omega (arith, (h no_scope [] [] []).0);
-      steps = λ scope.
-          let pushed : map (all_shown scope) c.push_back-in-Separates.new.self.items ≡ map (all_shown scope) lists ++ all_shown scope list ∷ [] =
-          ap (map (all_shown scope)) (c.in_ok-push_back-in-Separates.ensures.items ∙ ap (λ (l : List NumberedToken). lists ++ l ∷ []) c.new-in-Separates.ensures) ∙ shown_push_list scope lists list in
-          let step = h scope (all_shown scope list) (map (all_shown scope) lists) (all_shown scope rest) in
-          (λ i. actuals (step.0 i) (all_shown scope (c.new-list-in-Separates.ensures.items i)) (pushed i) (all_shown scope rest))
-          ∙ sym step.1
-          ∙ ap (λ (l : List NumberedToken). actuals c.loop-token.depth (all_shown scope list) (map (all_shown scope) lists) (all_shown scope l)) (sym c.in-Some.ensures.items)
-          ∙ c.loop-token.invariant.steps scope;
-      weight = omega (arith, ap weight_of_lists c.in_ok-push_back-in-Separates.ensures.items, weight_push lists c.new-in-Separates.result, ap length c.new-in-Separates.ensures, ap length c.new-list-in-Separates.ensures.items, ap length c.in-Some.ensures.items, c.loop-token.invariant.weight);
-    }
-
-pub loop-token-preserved : goal.loop-token-preserved
-loop-token-preserved c =
-    let h = rw c.in-Belongs.is at c.mark_of.ensures in
-    let list = c.loop-token.list.items in
-    let lists = c.loop-token.lists.items in
-    let rest = c.pop_front.new.self.items in
-    record {
-      depth = search rules;
-      steps = λ scope.
-          ap (λ (l : List PreprocessingToken). actuals c.loop-token.depth l (map (all_shown scope) lists) (all_shown scope rest)) (ap (all_shown scope) c.in_ok-push-in-Belongs.ensures.items ∙ shown_push scope list c.in-Some.token)
-          ∙ sym (h scope (all_shown scope list) (map (all_shown scope) lists) (all_shown scope rest))
-          ∙ ap (λ (l : List NumberedToken). actuals c.loop-token.depth (all_shown scope list) (map (all_shown scope) lists) (all_shown scope l)) (sym c.in-Some.ensures.items)
-          ∙ c.loop-token.invariant.steps scope;
-      weight = search rules;
+      steps = λ scope. takes_next c.loop-end.pending c.in-Some.end c.in_ok-take_first.field-0 c.pop_front.new.self c.in-Some-pop_front.sign c.loop-end.lists.items c.push_back.new.self.items t c.if-end.false c.in_ok-push_back.ensures.items scope ∙ c.loop-end.invariant.steps scope;
+      weight = omega (arith, takes_lighter c.loop-end.pending c.in-Some.end c.in_ok-take_first.field-0 c.pop_front.new.self c.in-Some-pop_front.sign c.loop-end.lists.items c.push_back.new.self.items t c.in_ok-push_back.ensures.items, c.loop-end.invariant.weight);
     }

@@ -21,7 +21,7 @@ returns-in_err-expanded-clause-leads c world =
     let lives : is_live c.args.self.now.context.conditionals.items ≡ true = search rules in
     let known = c.args.self.now.context.known in
     let new : Scan = record {
-      context = record { known = record { names = known.names; texts = known.texts; declared = known.declared; bytes = known.bytes; tokens = c.expand_list.new.count }; macros = c.args.self.now.context.macros; conditionals = c.args.self.now.context.conditionals };
+      context = record { known = record { files = known.files; declared = known.declared; bytes = known.bytes; tokens = c.expand_list.new.count }; macros = c.args.self.now.context.macros; conditionals = c.args.self.now.context.conditionals };
       rest = c.take_run.new.rest;
       outer = c.args.self.now.outer;
       out = c.args.self.now.out;
@@ -33,7 +33,7 @@ returns-clause-leads c world =
     let lives : is_live c.args.self.now.context.conditionals.items ≡ true = search rules in
     let known = c.args.self.now.context.known in
     let new : Scan = record {
-      context = record { known = record { names = known.names; texts = known.texts; declared = known.declared; bytes = known.bytes; tokens = c.expand_list.new.count }; macros = c.args.self.now.context.macros; conditionals = c.args.self.now.context.conditionals };
+      context = record { known = record { files = known.files; declared = known.declared; bytes = known.bytes; tokens = c.expand_list.new.count }; macros = c.args.self.now.context.macros; conditionals = c.args.self.now.context.conditionals };
       rest = c.take_run.new.rest;
       outer = c.args.self.now.outer;
       out = c.append.new.self;

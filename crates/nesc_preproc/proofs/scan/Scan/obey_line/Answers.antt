@@ -37,7 +37,7 @@ pub returns-in-Some-clause-leads : goal.returns-in-Some-clause-leads
 returns-in-Some-clause-leads g c world told lexing breaks =
     let old = c.args.self.now in
     let outer : c.len-depth.result ≡ length old.outer.items = search rules in
-    let breaks-now : BreaksFrom world.broken (length c.obey.new.context.known.texts.items) = rw (← ap (λ (k : KnownFiles). length k.texts.items) c.in_ok-open-in-Some.ensures.known) breaks in
+    let breaks-now : BreaksFrom world.broken (length c.obey.new.context.known.files.texts) = rw (← ap (λ (k : KnownFiles). length k.files.texts) c.in_ok-open-in-Some.ensures.known) breaks in
     header_leads world c.args.hash old c.open.new.self c.obey.new.context c.in-Some.header.items c.requires.directive
     (obeyed_at world _ _ c.args.hash.pos _ _ (situation (state_in old)) c.obey.new.context (Ok (Some c.in-Some.header)) (ap (λ n. n + 1) outer ∙ sym (depth_is old)) (c.deref.ensures.value ∙ c.in_ok-line.ensures.line)
     (rw c.in-Some.is at c.in_ok-header.ensures.obeyed world told lexing breaks-now))
