@@ -1,0 +1,4 @@
+pub mod Known
+pub mod Formed
+pub mod Groups
+pub mod WellFormed

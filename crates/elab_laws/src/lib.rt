@@ -1,0 +1,6 @@
+//! What elaboration gives is well formed.
+#![tactic(auto)]
+
+mod laws;
+
+pub use laws::elaboration_is_well_formed;
