@@ -1,5 +1,6 @@
 -- What a part of elaboration does: how many structs it ends, what it keeps, and what it gives.
 use Rattle.std.proofs.Common.{◌≡◌, ℕ, ◌+◌, ◌≤◌, List, length, Option, Ok, Err, ap, refl, arith}
+use Rattle.std.specs.Prelude.{⊤}
 use Rattle.nesc_core.specs.Plain.{Ty, Program}
 use Rattle.nesc_types.specs.Rule.{Rule}
 use Rattle.nesc_types.specs.Values.{Constant}
@@ -9,7 +10,7 @@ use Rattle.elab_laws.specs.Known.{Grows, IsClosed, IsKnown, IsPrefix}
 use Rattle.elab_laws.proofs.Steps.{Gets, Says, gets, gets_stopped, gets_kept, gets_then}
 use Rattle.elab_laws.proofs.Later.{known_more}
 use Rattle.elab_laws.proofs.Leaves as leaves
-use Rattle.elab_laws.proofs.Leaves.{Leaf, Light, closed_same, grows_on, known_same, light_grows, still}
+use Rattle.elab_laws.proofs.Leaves.{closed_same, grows_on, known_same, light_grows, still}
 
 abbrev pub Any : {A : Type 0} → ℕ → State → A → Type 0
 Any n t x = Unit {0}
@@ -22,8 +23,8 @@ Untyped x = Unit {0}
 
 module _ (p : Program) (types : List Ty) (env : Env) (consts : List (Option Constant)) where
   -- from state s, where `ends` definitions of structs end: R is so of the result while structs below n may be open, C where none is, and
-  -- T in a program to which the state belongs
-  pub record Does {A : Type 0} (ends : ℕ) (R : ℕ → State → A → Type 0) (C : State → A → Type 0) (T : A → Type 0) (s : State) (x : A) (t : State) : Type 0 where
+  -- T in a program to which the state belongs; G is what new locals need to be of types of the program
+  pub record DoesWith (G : State → Type 0) {A : Type 0} (ends : ℕ) (R : ℕ → State → A → Type 0) (C : State → A → Type 0) (T : A → Type 0) (s : State) (x : A) (t : State) : Type 0 where
     pub grows : Grows s t
     pub count : length t.structs ≡ length s.structs + ends
     pub known : (n : ℕ) → length s.structs + ends ≤ n → IsKnown n s → IsKnown n t
@@ -31,12 +32,22 @@ module _ (p : Program) (types : List Ty) (env : Env) (consts : List (Option Cons
     pub closed : IsClosed s → IsClosed t
     pub settled : IsClosed s → C t x
     pub typed : IsClosed s → leaves.B p types env consts t → T x
+    pub locals : G t → leaves.Q p types env consts s → leaves.Q p types env consts t
+
+  -- new locals need nothing
+  abbrev pub Does : {A : Type 0} → ℕ → (ℕ → State → A → Type 0) → (State → A → Type 0) → (A → Type 0) → State → A → State → Type 0
+  Does a R C T s = DoesWith (λ t. ⊤) a R C T s
+
+  -- what a part that finds expressions has at hand for them
+  abbrev pub Placed : State → State → Type 0
+  Placed s t = IsClosed s × leaves.B p types env consts t
 
   pub does_then : {A D : Type 0} {R : ℕ → State → A → Type 0} {C : State → A → Type 0} {T : A → Type 0} {R' : ℕ → State → D → Type 0} {C' : State → D → Type 0} {T' : D → Type 0}
-      (a b total : ℕ) (s : State) (r : Rule (A × State)) (next : A → State → Rule (D × State)) → total ≡ a + b → Gets r (Does a R C T s)
-      → ((x : A) (t : State) → Gets (next x t) (Does b (λ n u y. R n t x → R' n u y) (λ u y. C t x → C' u y) (λ y. T x → T' y) t))
-      → Gets (after r next) (Does total R' C' T' s)
-  does_then a b total s r next sum h f = gets_then r next h (λ x t q. gets_kept (next x t) (f x t) (λ y u g.
+      (G G1 : State → Type 0) (G2 : A → State → State → Type 0) (a b total : ℕ) (s : State) (r : Rule (A × State)) (next : A → State → Rule (D × State)) → total ≡ a + b → Gets r (DoesWith G1 a R C T s)
+      → ((x : A) (t : State) → Gets (next x t) (DoesWith (G2 x t) b (λ n u y. R n t x → R' n u y) (λ u y. C t x → C' u y) (λ y. T x → T' y) t))
+      → ((x : A) (t u : State) → DoesWith G1 a R C T s x t → Grows t u → G u → G1 t × G2 x t u)
+      → Gets (after r next) (DoesWith G total R' C' T' s)
+  does_then G G1 G2 a b total s r next sum h f split = gets_then r next h (λ x t q. gets_kept (next x t) (f x t) (λ y u g.
       let mid = q.count in
       record {
         grows = grows_on s t u q.grows g.grows;
@@ -46,13 +57,14 @@ module _ (p : Program) (types : List Ty) (env : Env) (consts : List (Option Cons
         closed = λ c. g.closed (q.closed c);
         settled = λ c. g.settled (q.closed c) (q.settled c);
         typed = λ c b. g.typed (q.closed c) b (q.typed c (leaves.belonged p types env consts t u g.grows b));
+        locals = λ k qs. let both = split x t u q g.grows k in g.locals both.1 (q.locals both.0 qs);
       }))
 
-  pub does_kept : {A : Type 0} {R R' : ℕ → State → A → Type 0} {C C' : State → A → Type 0} {T T' : A → Type 0} (a : ℕ) (s : State) (r : Rule (A × State)) → Gets r (Does a R C T s)
+  pub does_kept : {A : Type 0} {R R' : ℕ → State → A → Type 0} {C C' : State → A → Type 0} {T T' : A → Type 0} (G G' : State → Type 0) (a : ℕ) (s : State) (r : Rule (A × State)) → Gets r (DoesWith G a R C T s)
       → ((n : ℕ) (t : State) (x : A) → IsKnown n t → IsPrefix s.structs t.structs → R n t x → R' n t x)
       → ((t : State) (x : A) → IsClosed t → IsPrefix s.structs t.structs → C t x → C' t x)
-      → ((x : A) → T x → T' x) → Gets r (Does a R' C' T' s)
-  does_kept a s r h f g k = gets_kept r h (λ x t q. record {
+      → ((x : A) → T x → T' x) → ((t : State) → G' t → G t) → Gets r (DoesWith G' a R' C' T' s)
+  does_kept G G' a s r h f g k l = gets_kept r h (λ x t q. record {
     grows = q.grows;
     count = q.count;
     known = q.known;
@@ -60,12 +72,13 @@ module _ (p : Program) (types : List Ty) (env : Env) (consts : List (Option Cons
     closed = q.closed;
     settled = λ c. g t x (q.closed c) q.grows.structs (q.settled c);
     typed = λ c b. k x (q.typed c b);
+    locals = λ z. q.locals (l t z);
   })
 
   -- what is given where the state stays
-  pub does_give : {A : Type 0} {R : ℕ → State → A → Type 0} {C : State → A → Type 0} {T : A → Type 0} (x : A) (s : State)
-      → ((n : ℕ) → IsKnown n s → R n s x) → (IsClosed s → C s x) → (IsClosed s → leaves.B p types env consts s → T x) → Gets (Ok (x, s)) (Does 0 R C T s)
-  does_give x s f g k = gets x s (record {
+  pub does_give : {A : Type 0} {R : ℕ → State → A → Type 0} {C : State → A → Type 0} {T : A → Type 0} (G : State → Type 0) (x : A) (s : State)
+      → ((n : ℕ) → IsKnown n s → R n s x) → (IsClosed s → C s x) → (IsClosed s → leaves.B p types env consts s → T x) → Gets (Ok (x, s)) (DoesWith G 0 R C T s)
+  does_give G x s f g k = gets x s (record {
     grows = still s;
     count = omega arith;
     known = λ n le z. z;
@@ -73,16 +86,17 @@ module _ (p : Program) (types : List Ty) (env : Env) (consts : List (Option Cons
     closed = λ c. c;
     settled = g;
     typed = k;
+    locals = λ z q. q;
   })
 
-  pub does_by : {A : Type 0} {R : ℕ → State → A → Type 0} {C : State → A → Type 0} {T : A → Type 0} (r : Rule A) (s : State)
-      → ((n : ℕ) → IsKnown n s → Says r (R n s)) → (IsClosed s → Says r (C s)) → (IsClosed s → leaves.B p types env consts s → Says r T) → Gets (by r s) (Does 0 R C T s)
-  does_by (Ok x) s f g k = does_give x s (λ n z. (f n z).by x refl) (λ c. (g c).by x refl) (λ c b. (k c b).by x refl)
-  does_by (Err e) s f g k = gets_stopped e
+  pub does_by : {A : Type 0} {R : ℕ → State → A → Type 0} {C : State → A → Type 0} {T : A → Type 0} (G : State → Type 0) (r : Rule A) (s : State)
+      → ((n : ℕ) → IsKnown n s → Says r (R n s)) → (IsClosed s → Says r (C s)) → (IsClosed s → leaves.B p types env consts s → Says r T) → Gets (by r s) (DoesWith G 0 R C T s)
+  does_by G (Ok x) s f g k = does_give G x s (λ n z. (f n z).by x refl) (λ c. (g c).by x refl) (λ c b. (k c b).by x refl)
+  does_by G (Err e) s f g k = gets_stopped e
 
   -- a step that adds no name, tag or struct
-  pub does_leaf : {A : Type 0} {T : A → Type 0} (s : State) (r : Rule (A × State)) → Gets r (Leaf p types env consts s T) → Gets r (Does 0 Any Free T s)
-  does_leaf s r h = gets_kept r h (λ x t q. record {
+  pub does_leaf : {A : Type 0} {T : A → Type 0} (P : Type 0) (s : State) (r : Rule (A × State)) → Gets r (leaves.LeafWith p types env consts P s T) → Gets r (DoesWith (λ t. Placed s t × P) 0 Any Free T s)
+  does_leaf P s r h = gets_kept r h (λ x t q. record {
     grows = light_grows s t q.light;
     count = let e = ap length q.light.structs in omega (arith, e);
     known = λ n le z. known_same n s t q.light.names q.light.tags q.light.structs z;
@@ -90,6 +104,7 @@ module _ (p : Program) (types : List Ty) (env : Env) (consts : List (Option Cons
     closed = λ c. closed_same s t q.light.names q.light.tags q.light.structs c;
     settled = λ c. tt;
     typed = q.typed;
+    locals = λ g. q.locals g.0.0 g.0.1 g.1;
   })
 
   -- what hangs on nothing is so everywhere
@@ -102,4 +117,5 @@ module _ (p : Program) (types : List Ty) (env : Env) (consts : List (Option Cons
     closed = q.closed;
     settled = λ c. q.result (length s.structs + a) (omega arith) (known_more (length s.structs) (length s.structs + a) s (omega arith) c.known);
     typed = λ c b. q.result (length s.structs + a) (omega arith) (known_more (length s.structs) (length s.structs + a) s (omega arith) c.known);
+    locals = q.locals;
   })

@@ -4,6 +4,7 @@ use Rattle.std.specs.Prelude.{nat_lt, slice_get}
 use Rattle.std.proofs.lemmas.Bool.Decides.{nat_tests}
 use Rattle.nm_base.specs.declared.pos.Pos.{Pos}
 use Rattle.nesc_core.specs.Plain.{Ty, Program, Field, struct}
+use Rattle.nesc_core.specs.Typing.{IsType}
 use Rattle.nesc_types.specs.Rule.{Rule}
 use Rattle.nesc_types.specs.Values.{Constant}
 use Rattle.elab_meaning.specs.Scope.{Env, Kind, Struct, Tag, a_struct, an_enum, constant}
@@ -11,7 +12,7 @@ use Rattle.elab_meaning.specs.Elab.{State, add_name, after}
 use Rattle.elab_meaning.specs.Operators.{Based, arrays, ended, new_tag, plain_base, pointers}
 use Rattle.elab_meaning.specs.Wired.{dimensioned, starred, struct_ended, tagged}
 use Rattle.elab_laws.specs.Known.{Each, Grows, HasLayout, IsClosed, IsKnown, IsKnownType, IsPrefix, MayPoint, NamesStruct, PointsIn}
-use Rattle.elab_laws.proofs.Lists.{behind_prefix, each_at, each_kept, get_later, get_there, length_joined, longer_prefix, whole_prefix}
+use Rattle.elab_laws.proofs.Lists.{behind_prefix, each_at, each_kept, get_later, get_there, length_joined, longer_prefix, no_names, same_names, same_prefix, whole_prefix}
 use Rattle.elab_laws.proofs.Numbers.{IsConst}
 use Rattle.elab_laws.proofs.Sizes.{layout_at}
 use Rattle.elab_laws.proofs.Steps.{Gets, gets, gets_then, says_any, says_under}
@@ -20,29 +21,32 @@ use Rattle.elab_laws.proofs.Later.{known_more, named_more, points_later, struct_
 use Rattle.elab_laws.proofs.Types.{AreFields, Ends, IsChecked, MayBase, MayType, arrays_says, arrays_settled, checked_points, ended_says, get_dropped, pointers_says, pointers_settled, struct_is}
 use Rattle.elab_laws.proofs.Parts as parts
 use Rattle.elab_laws.proofs.Parts.{rule_then}
-use Rattle.elab_laws.proofs.Does as does
 use Rattle.elab_laws.proofs.Does.{Any, Does, Free, Untyped}
 
 -- a state with one more tag
 pub record Tags (kind : Kind) (s t : State) : Type 0 where
   pub names : t.names ≡ s.names
   pub structs : t.structs ≡ s.structs
+  pub tags : IsPrefix s.tags t.tags
   pub locals : t.locals ≡ s.locals
+  pub taken : t.taken ≡ s.taken
   pub asked : t.asked ≡ s.asked
   pub known : (n : ℕ) → NamesStruct n kind → IsKnown n s → IsKnown n t
 
 pub tagged_gets : (at : Pos) (tag : Option (List ℕ)) (kind : Kind) (s : State) → Gets (tagged at tag kind s) (λ u t. Tags kind s t)
-tagged_gets at None kind s = gets tt s (record { names = refl; structs = refl; locals = refl; asked = refl; known = λ n h k. k })
+tagged_gets at None kind s = gets tt s (record { names = refl; structs = refl; tags = whole_prefix s.tags; locals = refl; taken = refl; asked = refl; known = λ n h k. k })
 tagged_gets at (Some tag) kind s = rule_then (new_tag at s.first_tag s.tags tag) s _ (says_any _)
     (λ u h. gets tt (record s { tags = s.tags ++ (record { name = tag; kind = kind } ∷ []) })
-    (record { names = refl; structs = refl; locals = refl; asked = refl; known = λ n g k. tagged_more n s (record { name = tag; kind = kind }) g k }))
+    (record { names = refl; structs = refl; tags = behind_prefix s.tags (record { name = tag; kind = kind } ∷ []); locals = refl; taken = refl; asked = refl; known = λ n g k. tagged_more n s (record { name = tag; kind = kind }) g k }))
 
 tags_grow : (kind : Kind) (s t : State) → Tags kind s t → Grows s t
 tags_grow kind s t h = record {
-  names = subst (IsPrefix s.names) (sym h.names) (whole_prefix s.names);
-  structs = subst (IsPrefix s.structs) (sym h.structs) (whole_prefix s.structs);
-  locals = subst (IsPrefix s.locals) (sym h.locals) (whole_prefix s.locals);
-  asked = subst (IsPrefix s.asked) (sym h.asked) (whole_prefix s.asked);
+  names = same_names s.names t.names h.names;
+  tags = h.tags;
+  structs = same_prefix s.structs t.structs h.structs;
+  locals = same_prefix s.locals t.locals h.locals;
+  taken = same_prefix s.taken t.taken h.taken;
+  asked = same_prefix s.asked t.asked h.asked;
 }
 
 module _ (p : Program) (types : List Ty) (env : Env) (consts : List (Option Constant)) where
@@ -61,12 +65,12 @@ module _ (p : Program) (types : List Ty) (env : Env) (consts : List (Option Cons
   -- with what the state's structs are longer by
   pub longer : {A : Type 0} {R : ℕ → State → A → Type 0} {C : State → A → Type 0} (a : ℕ) (st : State) (r : Rule (A × State)) → Gets r (Does p types env consts a R C Untyped st)
       → Gets r (Does p types env consts a (λ n t x. R n t x × IsPrefix st.structs t.structs) (λ t x. C t x × IsPrefix st.structs t.structs) Untyped st)
-  longer a st r h = does.does_kept p types env consts a st r h (λ n t x k l z. (z, l)) (λ t x c l z. (z, l)) (λ x z. z)
+  longer a st r h = parts.plain_kept p types env consts a st r h (λ n t x k l z. (z, l)) (λ t x c l z. (z, l))
 
   -- where it is not looked at whether all have ended
   pub plainly : {A : Type 0} {R : ℕ → State → A → Type 0} {C : State → A → Type 0} (a : ℕ) (st : State) (r : Rule (A × State)) → Gets r (Does p types env consts a R C Untyped st)
       → Gets r (Does p types env consts a (λ n t x. R n t x × IsPrefix st.structs t.structs) Free Untyped st)
-  plainly a st r h = does.does_kept p types env consts a st r h (λ n t x k l z. (z, l)) (λ t x c l z. tt) (λ x z. z)
+  plainly a st r h = parts.plain_kept p types env consts a st r h (λ n t x k l z. (z, l)) (λ t x c l z. tt)
 
   -- ---- a struct
 
@@ -132,6 +136,7 @@ module _ (p : Program) (types : List Ty) (env : Env) (consts : List (Option Cons
         closed = λ c. closed c;
         settled = λ c. (last, tt);
         typed = λ c b. tt;
+        locals = λ g qs. q.locals tt (subst (Each (λ (t : Ty). IsType p.structs t)) (sym tags.locals) qs);
       }
         where
           same_length : length t1.structs ≡ length st.structs
@@ -142,7 +147,7 @@ module _ (p : Program) (types : List Ty) (env : Env) (consts : List (Option Cons
 
           grown : Grows st (with_struct t2 done)
           grown = grows_on st t2 (with_struct t2 done) (grows_on st t1 t2 (tags_grow (a_struct (length st.structs + g)) st t1 tags) q.grows)
-              (record { names = whole_prefix t2.names; structs = behind_prefix t2.structs (done ∷ []); locals = whole_prefix t2.locals; asked = whole_prefix t2.asked })
+              (record { names = no_names t2.names; tags = whole_prefix t2.tags; structs = behind_prefix t2.structs (done ∷ []); locals = whole_prefix t2.locals; taken = whole_prefix t2.taken; asked = whole_prefix t2.asked })
 
           count : length (t2.structs ++ (done ∷ [])) ≡ length st.structs + suc g
           count = let l = length_joined t2.structs (done ∷ []) in omega (arith, l, two)
@@ -175,13 +180,14 @@ module _ (p : Program) (types : List Ty) (env : Env) (consts : List (Option Cons
   pub enum_tag_does : (at : Pos) (tag : Option (List ℕ)) (st : State) → Gets (tagged at tag an_enum st) (Does p types env consts 0 Any Free Untyped st)
   enum_tag_does at None st = parts.plain_give p types env consts tt st (λ n k. tt)
   enum_tag_does at (Some tag) st = rule_then (new_tag at st.first_tag st.tags tag) st _ (says_any _) (λ u h. gets tt new (record {
-    grows = record { names = whole_prefix st.names; structs = whole_prefix st.structs; locals = whole_prefix st.locals; asked = whole_prefix st.asked };
+    grows = record { names = no_names st.names; tags = behind_prefix st.tags (record { name = tag; kind = an_enum } ∷ []); structs = whole_prefix st.structs; locals = whole_prefix st.locals; taken = whole_prefix st.taken; asked = whole_prefix st.asked };
     count = omega arith;
     known = λ n le k. tagged_more n st one tt k;
     result = λ n le k. tt;
     closed = λ c. record { known = tagged_more (length st.structs) st one tt c.known; fields = c.fields };
     settled = λ c. tt;
     typed = λ c b. tt;
+    locals = λ g qs. qs;
   }))
     where
       one : Tag
@@ -192,11 +198,12 @@ module _ (p : Program) (types : List Ty) (env : Env) (consts : List (Option Cons
 
   pub name_does : (name : List ℕ) (x : Constant) → IsConst x → (st : State) → Gets (add_name name (constant x.0 x.1) st) (Does p types env consts 0 Any Free Untyped st)
   name_does name x h st = gets tt (record st { names = st.names ++ (record { name = name; meaning = constant x.0 x.1 } ∷ []) }) (record {
-    grows = record { names = behind_prefix st.names (record { name = name; meaning = constant x.0 x.1 } ∷ []); structs = whole_prefix st.structs; locals = whole_prefix st.locals; asked = whole_prefix st.asked };
+    grows = record { names = record { more = record { name = name; meaning = constant x.0 x.1 } ∷ []; is = refl; constants = (tt, tt) }; tags = whole_prefix st.tags; structs = whole_prefix st.structs; locals = whole_prefix st.locals; taken = whole_prefix st.taken; asked = whole_prefix st.asked };
     count = omega arith;
     known = λ n le k. named_more n st (record { name = name; meaning = constant x.0 x.1 }) h k;
     result = λ n le k. tt;
     closed = λ c. record { known = named_more (length st.structs) st (record { name = name; meaning = constant x.0 x.1 }) h c.known; fields = c.fields };
     settled = λ c. tt;
     typed = λ c b. tt;
+    locals = λ g qs. qs;
   })

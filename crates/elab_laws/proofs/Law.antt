@@ -1,25 +1,22 @@
 -- The law, from what the walk does.
-use Rattle.std.proofs.Common.{◌≡◌, ℕ, zero, suc, ◌+◌, ◌<◌, ◌≤◌, List, [], ◌∷◌, length, get_or, Option, Some, Ok, ap, sym, subst, refl, arith, All}
+use Rattle.std.proofs.Common.{◌≡◌, ℕ, zero, suc, ◌+◌, ◌<◌, ◌≤◌, List, [], ◌∷◌, length, get_or, Option, Some, ap, sym, subst, refl, arith, All}
 use Rattle.std.specs.Prelude.{slice_get, slice_index_or}
-use Rattle.nm_base.specs.declared.pos.Pos.{Pos}
 use Rattle.nesc_core.specs.declared.layout.Layout.{Layout}
 use Rattle.nesc_core.specs.Plain.{Ty, Field, Program}
 use Rattle.nesc_core.specs.Size.{AreSized, IsSmall, NamesBelow, struct_at}
-use Rattle.nesc_core.specs.Typing.{IsType, PointsWell}
-use Rattle.nesc_tree.specs.Plain as s
+use Rattle.nesc_core.specs.Typing.{PointsWell}
 use Rattle.nesc_types.specs.Values.{Constant}
 use Rattle.elab_meaning.specs.Scope.{Env, Struct}
 use Rattle.elab_meaning.specs.Elab.{State}
 use Rattle.elab_meaning.specs.Ends.{ends_in, ends_in_type}
-use Rattle.elab_meaning.specs.Wired.{found, type_of}
+use Rattle.elab_meaning.specs.Wired.{found}
 use Rattle.elab_laws.specs.Known.{AreLaid, Each, IsClosed, IsPrefix, PointsIn}
 use Rattle.elab_laws.specs.Formed.{fields_in}
-use Rattle.elab_laws.specs.Groups.{TypeHasPlainGroups}
 use Rattle.elab_laws.specs.WellFormed.{ElaborationIsWellFormed, Keeps}
 use Rattle.elab_laws.proofs.Lists.{get_there, whole_prefix}
 use Rattle.elab_laws.proofs.Sizes as sizes
 use Rattle.elab_laws.proofs.Later.{known_more}
-use Rattle.elab_laws.proofs.Does.{Does}
+use Rattle.elab_laws.proofs.Does.{DoesWith}
 use Rattle.elab_laws.proofs.Parts as parts
 use Rattle.elab_laws.proofs.Walk as walk
 
@@ -82,8 +79,8 @@ module _ (ss : List Struct) (ok : sizes.AreStructs ss) (points : (k : ℕ) (x : 
 
 -- ---- what the walk does
 
-keeps : (p : Program) (types : List Ty) (env : Env) (consts : List (Option Constant)) {A : Type 0} {R : ℕ → State → A → Type 0} {C : State → A → Type 0} {T : A → Type 0}
-    (a : ℕ) (st new : State) (x : A) → IsClosed st → Does p types env consts a R C T st x new → Keeps st new
+keeps : (p : Program) (types : List Ty) (env : Env) (consts : List (Option Constant)) {G : State → Type 0} {A : Type 0} {R : ℕ → State → A → Type 0} {C : State → A → Type 0} {T : A → Type 0}
+    (a : ℕ) (st new : State) (x : A) → IsClosed st → DoesWith p types env consts G a R C T st x new → Keeps st new
 keeps p types env consts a st new x c h = record { closed = h.closed c; grows = h.grows }
 
 pub law : ElaborationIsWellFormed
@@ -91,20 +88,20 @@ law = record {
   sized = λ st c. are_sized st.structs c.known.structs c.fields;
   points = λ st c. all_point st.structs c.known.structs c.fields;
   founds = λ p types env consts e st new f c g is.
-      let h = (walk.found_does p types env consts e g st).by f new is in (keeps p types env consts (ends_in e) st new f c h, λ b. h.typed c b);
+      let h = (walk.found_does p types env consts e g st).by f new is in (keeps p types env consts (ends_in e) st new f c h, λ b. (h.typed c b, h.locals (c, b)));
   values = λ p types env consts e st new v c g is.
-      let h = (parts.value_does p types env consts (ends_in e) e (found env consts e) st (walk.found_does p types env consts e g st)).by v new is in (keeps p types env consts (ends_in e) st new v c h, λ b. h.typed c b);
+      let h = (parts.value_does p types env consts (ends_in e) e (found env consts e) st (walk.found_does p types env consts e g st)).by v new is in (keeps p types env consts (ends_in e) st new v c h, λ b. (h.typed c b, h.locals (c, b)));
   constants = λ p types env consts whole e evaluated st new x c g is.
       let h = (walk.constant_does p types env consts whole e evaluated g st).by x new is in
-      (keeps p types env consts (ends_in e) st new x c h, (refl, h.result (length st.structs + ends_in e) (omega arith) (known_more (length st.structs) (length st.structs + ends_in e) st (omega arith) c.known)));
-  types = λ env consts at t st new ty c g is. of_type env consts at t st new ty c g is;
+      (keeps p types env consts (ends_in e) st new x c h, (refl, h.result (length st.structs + ends_in e) (omega arith) (known_more (length st.structs) (length st.structs + ends_in e) st (omega arith) c.known)), h.locals tt);
+  types = λ env consts at t st new ty c g is.
+      let h = (walk.type_does none [] env consts at t g st).by ty new is in (
+        keeps none [] env consts (ends_in_type t) st new ty c h,
+        λ p first.
+            let k = (walk.type_does p [] env consts at t g st).by ty new is in
+            (sizes.known_type new.structs (h.closed c).known.structs p.structs first ty (h.settled c), k.locals tt),
+      );
 }
   where
     none : Program
     none = record { structs = []; objects = []; bodies = []; tasks = []; handlers = []; boot = 0; warnings = [] }
-
-    of_type : (env : Env) (consts : List (Option Constant)) (at : Pos) (t : s.TypeSpec) (st new : State) (ty : Ty) → IsClosed st → TypeHasPlainGroups t → type_of env consts at t st ≡ Ok (ty, new)
-        → Keeps st new × ((p : Program) → IsPrefix (fields_in new.structs) p.structs → IsType p.structs ty)
-    of_type env consts at t st new ty c g is =
-        let h = (walk.type_does none [] env consts at t g st).by ty new is in
-        (keeps none [] env consts (ends_in_type t) st new ty c h, λ p first. sizes.known_type new.structs (h.closed c).known.structs p.structs first ty (h.settled c))

@@ -1,16 +1,17 @@
 -- Lists that only grow, and what is so of each of their items.
 use Rattle.std.proofs.Common.{◌⊎◌, inl, inr, ◌≡◌, ℕ, zero, suc, ◌+◌, ◌<◌, ◌≤◌, Bool, true, false, List, [], ◌∷◌, ◌++◌, length, map, Some, ap, sym, subst, ◌∙◌, refl, arith, append_assoc}
 use Rattle.std.specs.Prelude.{slice_get, slice_index_or, if◌then◌else◌}
-use Rattle.elab_laws.specs.Known.{Each, IsPrefix}
+use Rattle.elab_meaning.specs.Scope.{Entry}
+use Rattle.elab_laws.specs.Known.{AddsConstants, Each, IsConstantMeaning, IsPrefix}
 
 -- ---- prefixes
 
+nothing_behind : {A : Type 0} (xs : List A) → xs ≡ xs ++ []
+nothing_behind [] = refl
+nothing_behind (x ∷ xs) = ap (λ ys. x ∷ ys) (nothing_behind xs)
+
 pub whole_prefix : {A : Type 0} (xs : List A) → IsPrefix xs xs
-whole_prefix xs = record { more = []; is = nothing xs }
-  where
-    nothing : {A : Type 0} (xs : List A) → xs ≡ xs ++ []
-    nothing [] = refl
-    nothing (x ∷ xs) = ap (λ ys. x ∷ ys) (nothing xs)
+whole_prefix xs = record { more = []; is = nothing_behind xs }
 
 pub same_prefix : {A : Type 0} (xs ys : List A) → ys ≡ xs → IsPrefix xs ys
 same_prefix xs ys e = subst (λ zs. IsPrefix xs zs) (sym e) (whole_prefix xs)
@@ -37,6 +38,14 @@ length_joined (x ∷ xs) ys = let h = length_joined xs ys in omega (arith, h)
 
 pub prefix_length : {A : Type 0} (xs ys : List A) → IsPrefix xs ys → length xs ≤ length ys
 prefix_length xs ys h = let k = length_joined xs h.more in let e = ap length h.is in omega (arith, k, e)
+
+-- ---- names
+
+pub no_names : (xs : List Entry) → AddsConstants xs xs
+no_names xs = record { more = []; is = nothing_behind xs; constants = tt }
+
+pub same_names : (xs ys : List Entry) → ys ≡ xs → AddsConstants xs ys
+same_names xs ys e = subst (λ zs. AddsConstants xs zs) (sym e) (no_names xs)
 
 -- ---- items by their numbers
 
@@ -101,6 +110,16 @@ pub each_at : {A : Type 0} (P : A → Type 0) (xs : List A) (k : ℕ) (x : A) �
 each_at P [] k x h e = absurd cc
 each_at P (y ∷ xs) zero x h e = let s : y ≡ x = cc in subst P s h.0
 each_at P (y ∷ xs) (suc k) x h e = each_at P xs k x h.1 e
+
+pub more_names : (xs ys zs : List Entry) → AddsConstants xs ys → AddsConstants ys zs → AddsConstants xs zs
+more_names xs ys zs h k = record {
+  more = h.more ++ k.more;
+  is = k.is ∙ ap (λ l. l ++ k.more) h.is ∙ append_assoc xs h.more k.more;
+  constants = each_joined (λ (e : Entry). IsConstantMeaning e.meaning) h.more k.more h.constants k.constants;
+}
+
+pub names_prefix : (xs ys : List Entry) → AddsConstants xs ys → IsPrefix xs ys
+names_prefix xs ys h = record { more = h.more; is = h.is }
 
 -- ---- a value that hangs on a test
 

@@ -1,6 +1,6 @@
 -- The steps that forms of expressions, constants and types are made of, and what each does.
 use Rattle.std.proofs.Common.{inl, inr, ◌≡◌, ℕ, suc, ◌+◌, ◌≤◌, Bool, true, false, List, [], ◌∷◌, length, Option, Some, None, Ok, Err, ap, subst, refl, arith}
-use Rattle.std.specs.Prelude.{ℤ, pos, negsuc, nat_eq, slice_get, if◌then◌else◌}
+use Rattle.std.specs.Prelude.{⊤, ℤ, pos, negsuc, nat_eq, slice_get, if◌then◌else◌}
 use Rattle.std.specs.Option.{option_map}
 use Rattle.std.proofs.lemmas.Bool.{eqb-true}
 use Rattle.std.proofs.lemmas.Int.{ints}
@@ -23,7 +23,7 @@ use Rattle.elab_meaning.specs.Elab.{Elab, State, after, alone, aside, back_in, b
 use Rattle.elab_meaning.specs.Convert.{Typed, Found, layout_in, type_found}
 use Rattle.elab_meaning.specs.Operators.{Based, const_of, constant_named, counted, decimal, directed, enum_tagged, item_named, port, same_count, sized, struct_tagged, type_named, with_type}
 use Rattle.elab_meaning.specs.Wired.{argument, as_found, measured, size_of, valued}
-use Rattle.elab_laws.specs.Known.{IsClosed, IsKnown, IsKnownMeaning, IsKnownType, NamesStruct}
+use Rattle.elab_laws.specs.Known.{IsPrefix, IsClosed, IsKnown, IsKnownMeaning, IsKnownType, NamesStruct}
 use Rattle.elab_laws.specs.Formed.{IsValueOf, IsWellFound}
 use Rattle.elab_laws.proofs.Lists.{get_there, whole_prefix}
 use Rattle.elab_laws.proofs.Numbers.{IsConst, MaybeConst, first_holding_is, in_range, maybe_const}
@@ -160,7 +160,7 @@ module _ (p : Program) (types : List Ty) (env : Env) (consts : List (Option Cons
 
   -- of expressions, constants, types and their bases
   abbrev pub DF : {A : Type 0} → ℕ → (A → Type 0) → State → A → State → Type 0
-  DF a T st = Does p types env consts a Any Free T st
+  DF a T st = does.DoesWith p types env consts (λ t. does.Placed p types env consts st t) a Any Free T st
 
   abbrev pub DK : ℕ → State → Constant → State → Type 0
   DK a st = Does p types env consts a (λ n t c. IsConst c) Free Untyped st
@@ -171,46 +171,78 @@ module _ (p : Program) (types : List Ty) (env : Env) (consts : List (Option Cons
   abbrev pub DB : ℕ → State → Based → State → Type 0
   DB a st = Does p types env consts a (λ n t b. MayBase n t.structs b.ty) (λ t b. IsKnownType t.structs b.ty) Untyped st
 
+  abbrev pub Placed : State → State → Type 0
+  Placed st t = does.Placed p types env consts st t
+
+  pub plain_kept : {A : Type 0} {R R' : ℕ → State → A → Type 0} {C C' : State → A → Type 0} (a : ℕ) (st : State) (r : Rule (A × State)) → Gets r (Does p types env consts a R C Untyped st)
+      → ((n : ℕ) (t : State) (x : A) → IsKnown n t → IsPrefix st.structs t.structs → R n t x → R' n t x)
+      → ((t : State) (x : A) → IsClosed t → IsPrefix st.structs t.structs → C t x → C' t x) → Gets r (Does p types env consts a R' C' Untyped st)
+  plain_kept a st r h f g = does.does_kept p types env consts (λ t. ⊤) (λ t. ⊤) a st r h f g (λ x z. z) (λ t z. z)
+
+  pub found_kept : {A : Type 0} {T T' : A → Type 0} (a : ℕ) (st : State) (r : Rule (A × State)) → Gets r (DF a T st) → ((x : A) → T x → T' x) → Gets r (DF a T' st)
+  found_kept a st r h f = does.does_kept p types env consts (λ t. Placed st t) (λ t. Placed st t) a st r h (λ n t x k l z. z) (λ t x c l z. z) f (λ t g. g)
+
+  -- the second part needs for its new locals what the first finds
+  pub placed_then : {A D : Type 0} {T : A → Type 0} {T' : D → Type 0} (P : Type 0) (P2 : A → Type 0) (a b total : ℕ) (st : State) (r : Rule (A × State)) (next : A → State → Rule (D × State)) → total ≡ a + b
+      → Gets r (DF a T st) → ((x : A) (t : State) → Gets (next x t) (does.DoesWith p types env consts (λ u. Placed t u × P2 x) b Any Free (λ y. T x → T' y) t)) → ((x : A) → T x → P → P2 x)
+      → Gets (after r next) (does.DoesWith p types env consts (λ u. Placed st u × P) total Any Free T' st)
+  placed_then P P2 a b total st r next sum h f second = does.does_then p types env consts (λ u. Placed st u × P) (λ u. Placed st u) (λ x t u. Placed t u × P2 x) a b total st r next sum h
+      (λ x t. does.does_kept p types env consts (λ u. Placed t u × P2 x) (λ u. Placed t u × P2 x) b t (next x t) (f x t) (λ n u y k l z w. tt) (λ u y c l z w. tt) (λ y g. g) (λ u g. g))
+      (λ x t u q grows g. let before = leaves.belonged p types env consts t u grows g.0.1 in ((g.0.0, before), ((q.closed g.0.0, g.0.1), second x (q.typed g.0.0 before) g.1)))
+
   pub found_then : {A D : Type 0} {T : A → Type 0} {T' : D → Type 0} (a b total : ℕ) (st : State) (r : Rule (A × State)) (next : A → State → Rule (D × State)) → total ≡ a + b
       → Gets r (DF a T st) → ((x : A) (t : State) → Gets (next x t) (DF b (λ y. T x → T' y) t)) → Gets (after r next) (DF total T' st)
-  found_then a b total st r next sum h f = does.does_then p types env consts a b total st r next sum h
-      (λ x t. does.does_kept p types env consts b t (next x t) (f x t) (λ n u y k l z w. tt) (λ u y c l z w. tt) (λ y g. g))
+  found_then a b total st r next sum h f = does.does_then p types env consts (λ u. Placed st u) (λ u. Placed st u) (λ x t u. Placed t u) a b total st r next sum h
+      (λ x t. does.does_kept p types env consts (λ u. Placed t u) (λ u. Placed t u) b t (next x t) (f x t) (λ n u y k l z w. tt) (λ u y c l z w. tt) (λ y g. g) (λ u g. g))
+      (λ x t u q grows g. ((g.0, leaves.belonged p types env consts t u grows g.1), (q.closed g.0, g.1)))
 
   pub plain_then : {A D : Type 0} {R : ℕ → State → A → Type 0} {R' : ℕ → State → D → Type 0} (a b total : ℕ) (st : State) (r : Rule (A × State)) (next : A → State → Rule (D × State)) → total ≡ a + b
       → Gets r (Does p types env consts a R Free Untyped st) → ((x : A) (t : State) → Gets (next x t) (Does p types env consts b (λ n u y. R n t x → R' n u y) Free Untyped t))
       → Gets (after r next) (Does p types env consts total R' Free Untyped st)
-  plain_then a b total st r next sum h f = does.does_then p types env consts a b total st r next sum h
-      (λ x t. does.does_kept p types env consts b t (next x t) (f x t) (λ n u y k l z. z) (λ u y c l z w. tt) (λ y g w. tt))
+  plain_then a b total st r next sum h f = does.does_then p types env consts (λ t. ⊤) (λ t. ⊤) (λ x t u. ⊤) a b total st r next sum h
+      (λ x t. does.does_kept p types env consts (λ t. ⊤) (λ t. ⊤) b t (next x t) (f x t) (λ n u y k l z. z) (λ u y c l z w. tt) (λ y g w. tt) (λ u g. g))
+      (λ x t u q grows g. (tt, tt))
 
   pub type_then : {A D : Type 0} {R : ℕ → State → A → Type 0} {C : State → A → Type 0} {R' : ℕ → State → D → Type 0} {C' : State → D → Type 0} (a b total : ℕ) (st : State) (r : Rule (A × State)) (next : A → State → Rule (D × State)) → total ≡ a + b
       → Gets r (Does p types env consts a R C Untyped st)
       → ((x : A) (t : State) → Gets (next x t) (Does p types env consts b (λ n u y. R n t x → R' n u y) (λ u y. C t x → C' u y) Untyped t))
       → Gets (after r next) (Does p types env consts total R' C' Untyped st)
-  type_then a b total st r next sum h f = does.does_then p types env consts a b total st r next sum h
-      (λ x t. does.does_kept p types env consts b t (next x t) (f x t) (λ n u y k l z. z) (λ u y c l z. z) (λ y g w. tt))
+  type_then a b total st r next sum h f = does.does_then p types env consts (λ t. ⊤) (λ t. ⊤) (λ x t u. ⊤) a b total st r next sum h
+      (λ x t. does.does_kept p types env consts (λ t. ⊤) (λ t. ⊤) b t (next x t) (f x t) (λ n u y k l z. z) (λ u y c l z. z) (λ y g w. tt) (λ u g. g))
+      (λ x t u q grows g. (tt, tt))
+
+  pub placed_leaf : {A : Type 0} {T : A → Type 0} (P : Type 0) (st : State) (r : Rule (A × State)) → Gets r (leaves.LeafWith p types env consts P st T) → Gets r (does.DoesWith p types env consts (λ u. Placed st u × P) 0 Any Free T st)
+  placed_leaf P st r h = does.does_leaf p types env consts P st r h
+
+  -- where nothing more is needed
+  pub placed_alone : {A : Type 0} {T : A → Type 0} (a : ℕ) (st : State) (r : Rule (A × State)) → Gets r (does.DoesWith p types env consts (λ u. Placed st u × ⊤) a Any Free T st) → Gets r (DF a T st)
+  placed_alone a st r h = does.does_kept p types env consts (λ u. Placed st u × ⊤) (λ u. Placed st u) a st r h (λ n t x k l z. z) (λ t x c l z. z) (λ x z. z) (λ t g. (g, tt))
 
   pub found_leaf : {A : Type 0} {T : A → Type 0} (st : State) (r : Rule (A × State)) → Gets r (Leaf p types env consts st T) → Gets r (DF 0 T st)
-  found_leaf st r h = does.does_leaf p types env consts st r h
+  found_leaf st r h = placed_alone 0 st r (placed_leaf ⊤ st r h)
 
   pub found_give : {A : Type 0} {T : A → Type 0} (x : A) (st : State) → (IsClosed st → B st → T x) → Gets (Ok (x, st)) (DF 0 T st)
-  found_give x st f = does.does_give p types env consts x st (λ n k. tt) (λ c. tt) f
+  found_give x st f = does.does_give p types env consts (λ t. Placed st t) x st (λ n k. tt) (λ c. tt) f
 
   pub found_by : {A : Type 0} {T : A → Type 0} (r : Rule A) (st : State) → (IsClosed st → B st → Says r T) → Gets (by r st) (DF 0 T st)
-  found_by r st f = does.does_by p types env consts r st (λ n k. says_any r) (λ c. says_any r) f
+  found_by r st f = does.does_by p types env consts (λ t. Placed st t) r st (λ n k. says_any r) (λ c. says_any r) f
 
   pub plain_give : {A : Type 0} {R : ℕ → State → A → Type 0} (x : A) (st : State) → ((n : ℕ) → IsKnown n st → R n st x) → Gets (Ok (x, st)) (Does p types env consts 0 R Free Untyped st)
-  plain_give x st f = does.does_give p types env consts x st f (λ c. tt) (λ c b. tt)
+  plain_give x st f = does.does_give p types env consts (λ t. ⊤) x st f (λ c. tt) (λ c b. tt)
 
   pub plain_by : {A : Type 0} {R : ℕ → State → A → Type 0} (r : Rule A) (st : State) → ((n : ℕ) → IsKnown n st → Says r (R n st)) → Gets (by r st) (Does p types env consts 0 R Free Untyped st)
-  plain_by r st f = does.does_by p types env consts r st f (λ c. says_any r) (λ c b. says_any r)
+  plain_by r st f = does.does_by p types env consts (λ t. ⊤) r st f (λ c. says_any r) (λ c b. says_any r)
+
+  pub type_give : {A : Type 0} {R : ℕ → State → A → Type 0} {C : State → A → Type 0} (x : A) (st : State) → ((n : ℕ) → IsKnown n st → R n st x) → (IsClosed st → C st x) → Gets (Ok (x, st)) (Does p types env consts 0 R C Untyped st)
+  type_give x st f g = does.does_give p types env consts (λ t. ⊤) x st f g (λ c b. tt)
 
   pub type_by : {A : Type 0} {R : ℕ → State → A → Type 0} {C : State → A → Type 0} (r : Rule A) (st : State) → ((n : ℕ) → IsKnown n st → Says r (R n st)) → (IsClosed st → Says r (C st))
       → Gets (by r st) (Does p types env consts 0 R C Untyped st)
-  type_by r st f g = does.does_by p types env consts r st f g (λ c b. says_any r)
+  type_by r st f g = does.does_by p types env consts (λ t. ⊤) r st f g (λ c b. says_any r)
 
   -- what is not looked at
   pub constant_found : (a : ℕ) (st : State) (r : Rule (Constant × State)) → Gets r (DK a st) → Gets r (DF a IsConst st)
-  constant_found a st r h = does.does_kept p types env consts a st r (does.does_everywhere p types env consts a st r h) (λ n t x k l z. tt) (λ t x c l z. tt) (λ x z. z)
+  constant_found a st r h = does.does_kept p types env consts (λ t. ⊤) (λ t. Placed st t) a st r (does.does_everywhere p types env consts a st r h) (λ n t x k l z. tt) (λ t x c l z. tt) (λ x z. z) (λ t g. tt)
 
   pub type_found_in : (a : ℕ) (st : State) (r : Rule (Ty × State)) → Gets r (DT a st) → Gets r (DF a (λ (u : Ty). IsType p.structs u) st)
   type_found_in a st r h = gets_kept r h (λ u t q. record {
@@ -221,6 +253,7 @@ module _ (p : Program) (types : List Ty) (env : Env) (consts : List (Option Cons
     closed = q.closed;
     settled = λ c. tt;
     typed = λ c b. sizes.known_type t.structs (q.closed c).known.structs p.structs b.structs u (q.settled c);
+    locals = λ g. q.locals tt;
   })
 
   -- ---- parts as values
@@ -246,13 +279,14 @@ module _ (p : Program) (types : List Ty) (env : Env) (consts : List (Option Cons
       back : (r : Rule (Found × State)) → Gets r (DF a W (alone st)) → Gets (back_in st r) (Does p types env consts a Any Free Untyped st)
       back (Err e) k = gets_stopped e
       back (Ok x) k = let q = k.by x.0 x.1 refl in gets x.0 (with_aside (aside st) x.1) (record {
-        grows = record { names = q.grows.names; structs = q.grows.structs; locals = whole_prefix st.locals; asked = whole_prefix st.asked };
+        grows = record { names = q.grows.names; tags = q.grows.tags; structs = q.grows.structs; locals = whole_prefix st.locals; taken = whole_prefix st.taken; asked = whole_prefix st.asked };
         count = q.count;
         known = λ n le z. known_same n x.1 (with_aside (aside st) x.1) refl refl refl (q.known n le (known_same n st (alone st) refl refl refl z));
         result = λ n le z. tt;
         closed = λ c. closed_same x.1 (with_aside (aside st) x.1) refl refl refl (q.closed (closed_same st (alone st) refl refl refl c));
         settled = λ c. tt;
         typed = λ c b. tt;
+        locals = λ g qs. qs;
       })
 
   pub measured_does : (a : ℕ) (at : Pos) (work : Elab Found) (st : State) → Gets (work (alone st)) (DF a W (alone st)) → Gets (measured at work st) (DK a st)
@@ -263,5 +297,5 @@ module _ (p : Program) (types : List Ty) (env : Env) (consts : List (Option Cons
   pub size_of_does : (a : ℕ) (at : Pos) (work : Elab Ty) (st : State) → Gets (work st) (DT a st) → Gets (size_of at work st) (DK a st)
   unfolding size_of
   size_of_does a at work st h = plain_then a 0 a st (work st) _ (omega arith)
-      (does.does_kept p types env consts a st (work st) h (λ n t x k l z. z) (λ t x c l z. tt) (λ x z. z))
+      (plain_kept a st (work st) h (λ n t x k l z. z) (λ t x c l z. tt))
       (λ u t. plain_by _ t (λ n k. says_under _ (λ z. sized_is t.structs at u k.structs)))

@@ -1,6 +1,6 @@
 -- Places as values, addresses, struct assignments, and operators that need a local.
 use Rattle.std.proofs.Common.{◌≡◌, ℕ, ◌<◌, false, List, [], ◌∷◌, ◌++◌, fold, length, Option, Some, None, Ok, ap, sym, subst, ◌∙◌, refl, arith}
-use Rattle.std.specs.Prelude.{pos, slice_get, slice_index_or}
+use Rattle.std.specs.Prelude.{⊤, pos, slice_get, slice_index_or}
 use Rattle.nm_base.specs.declared.pos.Pos.{Pos}
 use Rattle.nm_base.specs.declared.int_type.IntType.{IntType}
 use Rattle.nm_base.specs.declared.int_type.IntType.TheVariants.{I16}
@@ -10,7 +10,7 @@ use Rattle.nesc_core.specs.declared.layout.Layout.{Layout}
 use Rattle.nesc_core.specs.Plain.{Ty, Expr, Place, Program, Field, void, int, pointer, array, struct}
 use Rattle.nesc_core.specs.Plain as core
 use Rattle.nesc_core.specs.PlaceTypes.{place_type, element_of, fields_of, field_type}
-use Rattle.nesc_core.specs.Typing.{PointsWell, IsArray, IsScalar, IsPlace, IsSome, Has}
+use Rattle.nesc_core.specs.Typing.{IsType, PointsWell, IsArray, IsScalar, IsPlace, IsSome, Has}
 use Rattle.nesc_tree.specs.declared.tree.PreOp.{PreOp}
 use Rattle.nesc_tree.specs.declared.tree.PreOp.TheVariants as pre
 use Rattle.nesc_tree.specs.declared.tree.InOp.{InOp}
@@ -67,7 +67,8 @@ module _ (p : Program) (types : List Ty) (env : Env) (consts : List (Option Cons
   -- ---- places as values
 
   pub take_leaf : (at : Pos) (place : Place) (s : State) → Gets (take at place s) (L s (λ u. Unit {0}))
-  take_leaf at (core.object k) s = leaves.leaf p types env consts _ _ _ (record { names = refl; tags = refl; structs = refl; locals = (unmoved s).locals; asked = (unmoved s).asked }) (λ c b. tt)
+  take_leaf at (core.object k) s = leaves.leaf_with p types env consts tt s (record s { taken = s.taken ++ (k ∷ []) })
+      (record { names = refl; tags = refl; structs = refl; locals = (unmoved s).locals; taken = behind_prefix s.taken (k ∷ []); asked = (unmoved s).asked }) (λ c b. tt) (λ z q. q)
   take_leaf at (core.local x) s = leaves.leaf_by p types env consts _ s (λ c b. refuses _)
   take_leaf at (core.deref e t) s = leaves.leaf_give p types env consts _ s (λ c b. tt)
   take_leaf at (core.index q e) s = take_leaf at q s
@@ -113,7 +114,7 @@ module _ (p : Program) (types : List Ty) (env : Env) (consts : List (Option Cons
 
   pub as_value_leaf : (at : Pos) (f : Found) (s : State) → Gets (as_value at f s) (L s (λ v. W f → V v))
   as_value_leaf at (a_value v) s = leaves.leaf_give p types env consts _ s (λ c b h. h)
-  as_value_leaf at (a_place place indexes t is_const) s = leaves.leaf_kept p types env consts s _ (read_leaf at place t s) (λ v f h. f h.0)
+  as_value_leaf at (a_place place indexes t is_const) s = leaves.leaf_kept p types env consts ⊤ s _ (read_leaf at place t s) (λ v f h. f h.0)
   as_value_leaf at (a_copy steps place k) s = leaves.leaf_give p types env consts _ s (λ c b h. joined_is steps h.0)
 
   pub addressed_leaf : (at : Pos) (f : Found) (s : State) → Gets (addressed at f s) (L s (λ g. W f → W g))
@@ -147,10 +148,17 @@ module _ (p : Program) (types : List Ty) (env : Env) (consts : List (Option Cons
 
   -- ---- operators that need a local
 
-  pub fresh_leaf : (t : Ty) (s : State) → Gets (fresh t s) (L s (λ n. (n < length types) × (slice_index_or types n void ≡ t)))
-  fresh_leaf t s = leaves.leaf p types env consts _ s _
-      (record { names = refl; tags = refl; structs = refl; locals = behind_prefix s.locals (t ∷ []); asked = (unmoved s).asked })
+  fresh_with : (t : Ty) (s : State) → Gets (fresh t s) (leaves.LeafWith p types env consts (IsType p.structs t) s (λ n. (n < length types) × (slice_index_or types n void ≡ t)))
+  fresh_with t s = leaves.leaf_with p types env consts (length s.locals) s (record s { locals = s.locals ++ (t ∷ []) })
+      (record { names = refl; tags = refl; structs = refl; locals = behind_prefix s.locals (t ∷ []); taken = (unmoved s).taken; asked = (unmoved s).asked })
       (λ c b. local_behind s.locals types t b.locals)
+      (λ k q. each_joined (λ (u : Ty). IsType p.structs u) s.locals (t ∷ []) q (k, tt))
+
+  int_type : (a : IntType) → IsType p.structs (int a)
+  int_type a = record { sized = record { names = tt; small = tt }; points = tt }
+
+  fresh_leaf : (a : IntType) (s : State) → Gets (fresh (int a) s) (L s (λ n. (n < length types) × (slice_index_or types n void ≡ int a)))
+  fresh_leaf a s = leaves.leaf_narrow p types env consts (IsType p.structs (int a)) ⊤ s _ (λ k. int_type a) (fresh_with (int a) s)
 
   -- an expression goes to a local before the next is made
   behind_kept_is : (at : Pos) (n : ℕ) (a : IntType) (e next : Expr) (t : Ty) → (n < length types) × (slice_index_or types n void ≡ int a) → H e (int a) → H next t
@@ -160,7 +168,7 @@ module _ (p : Program) (types : List Ty) (env : Env) (consts : List (Option Cons
   exchanged_leaf : (o : BinOp) → IsComparison o → (at : Pos) (x y : Typed) (s : State) → Gets (exchanged o at x y s) (L s (λ f. V x → V y → W f))
   exchanged_leaf o comparison at x y s = leaves.leaf_then p types env consts s _ _
       (leaves.leaf_by p types env consts _ s (λ c b. says_under _ (λ hx. says_under _ (λ hy. values.comparable_ok p types at x y hx hy))))
-      (λ d s1. leaves.leaf_then p types env consts s1 _ _ (fresh_leaf (int d.at_type) s1) (λ n s2. leaves.leaf_give p types env consts (value_found (behind d n) (int I16)) s2 (λ c b k sides hx hy. made d n k (sides hx hy))))
+      (λ d s1. leaves.leaf_then p types env consts s1 _ _ (fresh_leaf d.at_type s1) (λ n s2. leaves.leaf_give p types env consts (value_found (behind d n) (int I16)) s2 (λ c b k sides hx hy. made d n k (sides hx hy))))
     where
       behind : Sides → ℕ → Expr
       behind d n = core.comma (core.assign (core.local n) d.first at) (core.bin o d.at_type d.second (core.read (core.local n) at))
@@ -172,7 +180,7 @@ module _ (p : Program) (types : List Ty) (env : Env) (consts : List (Option Cons
   moved_behind_leaf : (a : IntType) (at : Pos) (x y : Typed) (s : State) → x.ty ≡ int a → Gets (moved_behind a at x.expr y s) (L s (λ f. V x → V y → W f))
   moved_behind_leaf a at x y s same = leaves.leaf_then p types env consts s _ _
       (leaves.leaf_by p types env consts _ s (λ c b. says_kept _ (stride_says s.structs at y.ty) (λ d k. moves d c b k)))
-      (λ d s1. leaves.leaf_then p types env consts s1 _ _ (fresh_leaf (int a) s1) (λ n s2. leaves.leaf_give p types env consts (found d n) s2 (λ c b k f hx hy. made d n k f hx hy)))
+      (λ d s1. leaves.leaf_then p types env consts s1 _ _ (fresh_leaf a s1) (λ n s2. leaves.leaf_give p types env consts (found d n) s2 (λ c b k f hx hy. made d n k f hx hy)))
     where
       behind : Stride → ℕ → Expr
       behind d n = core.comma (core.assign (core.local n) x.expr at) (core.offset y.expr (core.read (core.local n) at) d.bytes)
@@ -248,22 +256,29 @@ module _ (p : Program) (types : List Ty) (env : Env) (consts : List (Option Cons
   F place done f = Each S f.steps × IsPlace p types f.place × (place_type p types f.place ≡ place_type p types place)
 
   kept_leaf : (at : Pos) (t : Ty) (e : Expr) (done : List Expr) (s : State) → IsScalar t → Gets (kept at t e done s)
-      (L s (λ f. H e t → Each S done → Each S f.steps × IsPlace p types f.place × (place_type p types f.place ≡ t)))
-  kept_leaf at t e done s scalar = leaves.leaf_then p types env consts s _ _ (fresh_leaf t s) (λ n s1. leaves.leaf_give p types env consts (record { steps = done ++ (core.assign (core.local n) e at ∷ []); place = core.local n }) s1
+      (leaves.LeafWith p types env consts (IsType p.structs t) s (λ f. H e t → Each S done → Each S f.steps × IsPlace p types f.place × (place_type p types f.place ≡ t)))
+  kept_leaf at t e done s scalar = leaves.leaf_then_with p types env consts (IsType p.structs t) (IsType p.structs t) (λ n. ⊤) s _ _ (fresh_with t s)
+      (λ n s1. leaves.leaf_give p types env consts (record { steps = done ++ (core.assign (core.local n) e at ∷ []); place = core.local n }) s1
       (λ c b k h hs. (each_joined S done (core.assign (core.local n) e at ∷ []) hs ((t, (sym k.1, scalar, k.0, h)), tt), k.0, k.1)))
+      (λ k. k) (λ n z k. tt)
 
+  -- new locals are of types of the program where the place is well formed
   pub frozen_leaf : (at : Pos) (place : Place) (indexes : List IntType) (done : List Expr) (s : State)
-      → Gets (frozen at place indexes done s) (L s (λ f. IsPlace p types place → HasIndexes p types place indexes → Each S done → F place done f))
-  frozen_leaf at (core.object k) indexes done s = leaves.leaf_give p types env consts (record { steps = done; place = core.object k }) s (λ c b h hs hd. (hd, h, refl))
-  frozen_leaf at (core.local x) indexes done s = leaves.leaf_give p types env consts (record { steps = done; place = core.local x }) s (λ c b h hs hd. (hd, h, refl))
-  frozen_leaf at (core.deref e t) indexes done s = leaves.leaf_then p types env consts s _ _ (kept_leaf at (pointer t) e done s tt)
+      → Gets (frozen at place indexes done s)
+      (leaves.LeafWith p types env consts (IsPlace p types place) s (λ f. IsPlace p types place → HasIndexes p types place indexes → Each S done → F place done f))
+  frozen_leaf at (core.object k) indexes done s = leaves.leaf_with p types env consts (record { steps = done; place = core.object k }) s s (unmoved s) (λ c b h hs hd. (hd, h, refl)) (λ z q. q)
+  frozen_leaf at (core.local x) indexes done s = leaves.leaf_with p types env consts (record { steps = done; place = core.local x }) s s (unmoved s) (λ c b h hs hd. (hd, h, refl)) (λ z q. q)
+  frozen_leaf at (core.deref e t) indexes done s = leaves.leaf_then_with p types env consts (IsPlace p types (core.deref e t)) (IsType p.structs (pointer t)) (λ f. ⊤) s _ _ (kept_leaf at (pointer t) e done s tt)
       (λ f s1. leaves.leaf_give p types env consts (record { steps = f.steps; place = core.deref (core.read f.place at) t }) s1
       (λ c b k h hs hd. let g = k h.1 hd in (g.0, (h.0, (sym g.2, tt, g.1)), refl)))
-  frozen_leaf at (core.index q e) [] done s = leaves.leaf_by p types env consts _ s (λ c b. refuses _)
-  frozen_leaf at (core.index q e) (t ∷ indexes) done s = leaves.leaf_then p types env consts s _ _ (frozen_leaf at q indexes done s)
-      (λ f s1. leaves.leaf_then p types env consts s1 _ _ (kept_leaf at (int t) e f.steps s1 tt)
+      (λ h. record { sized = record { names = tt; small = tt }; points = h.0 }) (λ f z h. tt)
+  frozen_leaf at (core.index q e) [] done s = leaves.leaf_narrow p types env consts ⊤ (IsPlace p types (core.index q e)) s _ (λ z. tt) (leaves.leaf_by p types env consts _ s (λ c b. refuses _))
+  frozen_leaf at (core.index q e) (t ∷ indexes) done s = leaves.leaf_then_with p types env consts (IsPlace p types (core.index q e)) (IsPlace p types q) (λ f. ⊤) s _ _ (frozen_leaf at q indexes done s)
+      (λ f s1. leaves.leaf_then_with p types env consts ⊤ (IsType p.structs (int t)) (λ i. ⊤) s1 _ _ (kept_leaf at (int t) e f.steps s1 tt)
       (λ i s2. leaves.leaf_give p types env consts (record { steps = i.steps; place = core.index f.place (core.read i.place at) }) s2
-      (λ c b k m h hs hd. element f i k m h hs hd)))
+      (λ c b k m h hs hd. element f i k m h hs hd))
+      (λ z. int_type t) (λ i z k. tt))
+      (λ h. h.1) (λ f z h. tt)
     where
       element : (f i : Frozen) → (H e (int t) → Each S f.steps → Each S i.steps × IsPlace p types i.place × (place_type p types i.place ≡ int t))
           → (IsPlace p types q → HasIndexes p types q indexes → Each S done → F q done f) → IsPlace p types (core.index q e) → HasIndexes p types (core.index q e) (t ∷ indexes) → Each S done
@@ -272,8 +287,9 @@ module _ (p : Program) (types : List Ty) (env : Env) (consts : List (Option Cons
           let g = m h.1 hs.1 hd in
           let n = k hs.0 g.0 in
           (n.0, (subst IsArray (sym g.2) h.0, g.1, (t, (sym n.2, tt, n.1))), ap element_of g.2)
-  frozen_leaf at (core.field q k) indexes done s = leaves.leaf_then p types env consts s _ _ (frozen_leaf at q indexes done s)
+  frozen_leaf at (core.field q k) indexes done s = leaves.leaf_then_with p types env consts (IsPlace p types (core.field q k)) (IsPlace p types q) (λ f. ⊤) s _ _ (frozen_leaf at q indexes done s)
       (λ f s1. leaves.leaf_give p types env consts (record { steps = f.steps; place = core.field f.place k }) s1 (λ c b m h hs hd. field f m h hs hd))
+      (λ h. h.1) (λ f z h. tt)
     where
       field : (f : Frozen) → (IsPlace p types q → HasIndexes p types q indexes → Each S done → F q done f) → IsPlace p types (core.field q k) → HasIndexes p types q indexes → Each S done
           → F (core.field q k) done (record { steps = f.steps; place = core.field f.place k })

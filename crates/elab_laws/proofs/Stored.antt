@@ -4,6 +4,7 @@ use Rattle.std.specs.Prelude.{⊤, ◌&&◌, nat_eq, slice_get, slice_index_or, 
 use Rattle.std.proofs.lemmas.Bool.{eqb-true}
 use Rattle.nm_base.specs.declared.pos.Pos.{Pos}
 use Rattle.nm_base.specs.declared.int_type.IntType.{IntType}
+use Rattle.nm_base.specs.declared.refusal.Refusal.{Refusal}
 use Rattle.nm_base.specs.declared.refusal.Refusal.TheVariants.{BadType}
 use Rattle.nesc_core.specs.Plain.{Ty, Expr, Place, Program, struct}
 use Rattle.nesc_core.specs.PlaceTypes.{place_type}
@@ -18,7 +19,7 @@ use Rattle.elab_meaning.specs.Places.{Frozen, ask, body_reached, copied, copies,
 use Rattle.elab_laws.specs.Known.{Each, IsClosed}
 use Rattle.elab_laws.specs.Formed.{HasIndexes, IsBodyOf, IsPlaceOf, IsValueOf, IsWellFound, IsValue, TargetBelongs, parameter_type, value_type}
 use Rattle.elab_laws.proofs.Lists.{behind_prefix, each_joined}
-use Rattle.elab_laws.proofs.Steps.{Gets, gets_if, says_under, refuses}
+use Rattle.elab_laws.proofs.Steps.{Gets, gets_stopped, gets_if, says_under}
 use Rattle.elab_laws.proofs.Copies as copying
 use Rattle.elab_laws.proofs.Operations as operations
 use Rattle.elab_laws.proofs.Operations.{struct_number_is}
@@ -45,6 +46,9 @@ module _ (p : Program) (types : List Ty) (env : Env) (consts : List (Option Cons
   abbrev T : Target → Type 0
   T t = IsPlaceOf p types t.place t.ty × HasIndexes p types t.place t.indexes
 
+  refused : {P A : Type 0} {U : A → Type 0} {r : Refusal} (s : State) → Gets {A = A} (by (refuse r) s) (leaves.LeafWith p types env consts P s U)
+  refused s = gets_stopped _
+
   -- ---- structs
 
   copies_each : (at at_value : Pos) (k : ℕ) (s : State) → IsClosed s → B s → (a b : Place) → IsPlaceOf p types a (struct k) → IsPlaceOf p types b (struct k)
@@ -61,10 +65,12 @@ module _ (p : Program) (types : List Ty) (env : Env) (consts : List (Option Cons
   frozen_is place k f h formed same = record { formed = formed; ty = same ∙ h.ty; known = h.known }
 
   place_leaf : (at at_value : Pos) (t : Target) (k : ℕ) (q : Place) (indexes : List IntType) (s : State) → t.ty ≡ struct k
-      → Gets (place_copied at at_value t k q indexes s) (L s (λ f. IsPlaceOf p types q (struct k) × HasIndexes p types q indexes → T t → W f))
-  place_leaf at at_value t k q indexes s same = leaves.leaf_then p types env consts s _ _ (places.frozen_leaf p types env consts at t.place t.indexes [] s)
-      (λ f s1. leaves.leaf_then p types env consts s1 _ _ (places.frozen_leaf p types env consts at_value q indexes f.steps s1)
-      (λ g s2. leaves.leaf_give p types env consts (a_copy (g.steps ++ copies s2.structs at at_value k f.place g.place) f.place k) s2 (λ c b second first hq ht. made s2 c b f g first second hq (subst (IsPlaceOf p types t.place) same ht.0) ht.1)))
+      → Gets (place_copied at at_value t k q indexes s) (leaves.LeafWith p types env consts (IsPlace p types t.place × IsPlace p types q) s (λ f. IsPlaceOf p types q (struct k) × HasIndexes p types q indexes → T t → W f))
+  place_leaf at at_value t k q indexes s same = leaves.leaf_then_with p types env consts (IsPlace p types t.place × IsPlace p types q) (IsPlace p types t.place) (λ f. IsPlace p types q) s _ _ (places.frozen_leaf p types env consts at t.place t.indexes [] s)
+      (λ f s1. leaves.leaf_then_with p types env consts (IsPlace p types q) (IsPlace p types q) (λ g. ⊤) s1 _ _ (places.frozen_leaf p types env consts at_value q indexes f.steps s1)
+      (λ g s2. leaves.leaf_give p types env consts (a_copy (g.steps ++ copies s2.structs at at_value k f.place g.place) f.place k) s2 (λ c b second first hq ht. made s2 c b f g first second hq (subst (IsPlaceOf p types t.place) same ht.0) ht.1))
+      (λ k. k) (λ g z k. tt))
+      (λ k. k.0) (λ f z k. k.1)
     where
       made : (s : State) → IsClosed s → B s → (f g : Frozen)
           → (IsPlace p types t.place → HasIndexes p types t.place t.indexes → Each S [] → Each S f.steps × IsPlace p types f.place × (place_type p types f.place ≡ place_type p types t.place))
@@ -78,9 +84,10 @@ module _ (p : Program) (types : List Ty) (env : Env) (consts : List (Option Cons
           (each_joined S g.steps (copies s.structs at at_value k f.place g.place) n.0 (copies_each at at_value k s c b f.place g.place to (frozen_is q k g hq.0 n.1 n.2)), to)
 
   copy_leaf : (at at_value : Pos) (t : Target) (k : ℕ) (steps : List Expr) (q : Place) (s : State) → t.ty ≡ struct k
-      → Gets (copy_copied at at_value t k steps q s) (L s (λ f. Each S steps × IsPlaceOf p types q (struct k) → T t → W f))
-  copy_leaf at at_value t k steps q s same = leaves.leaf_then p types env consts s _ _ (places.frozen_leaf p types env consts at t.place t.indexes steps s)
+      → Gets (copy_copied at at_value t k steps q s) (leaves.LeafWith p types env consts (IsPlace p types t.place) s (λ f. Each S steps × IsPlaceOf p types q (struct k) → T t → W f))
+  copy_leaf at at_value t k steps q s same = leaves.leaf_then_with p types env consts (IsPlace p types t.place) (IsPlace p types t.place) (λ f. ⊤) s _ _ (places.frozen_leaf p types env consts at t.place t.indexes steps s)
       (λ f s1. leaves.leaf_give p types env consts (a_copy (f.steps ++ copies s1.structs at at_value k f.place q) f.place k) s1 (λ c b first hq ht. made s1 c b f first hq (subst (IsPlaceOf p types t.place) same ht.0) ht.1))
+      (λ k. k) (λ f z k. tt)
     where
       made : (s : State) → IsClosed s → B s → (f : Frozen)
           → (IsPlace p types t.place → HasIndexes p types t.place t.indexes → Each S steps → Each S f.steps × IsPlace p types f.place × (place_type p types f.place ≡ place_type p types t.place))
@@ -91,31 +98,41 @@ module _ (p : Program) (types : List Ty) (env : Env) (consts : List (Option Cons
           let to = frozen_is t.place k f ht m.1 m.2 in
           (each_joined S f.steps (copies s.structs at at_value k f.place q) m.0 (copies_each at at_value k s c b f.place q to hq.1), to)
 
-  copied_leaf : (at at_value : Pos) (t : Target) (k : ℕ) (f : Found) (s : State) → t.ty ≡ struct k → Gets (copied at at_value t k f s) (L s (λ g. W f → T t → W g))
+  -- new locals are of types of the program where both sides are well formed
+  abbrev LS : State → Found → Target → (Found → Type 0) → Found → State → Type 0
+  LS s f t U = leaves.LeafWith p types env consts (W f × T t) s U
+
+  copied_leaf : (at at_value : Pos) (t : Target) (k : ℕ) (f : Found) (s : State) → t.ty ≡ struct k → Gets (copied at at_value t k f s) (LS s f t (λ g. W f → T t → W g))
   copied_leaf at at_value t k (a_place q indexes u is_const) s same = by_number (struct_number u) refl
     where
       by_number : (o : Option ℕ) → struct_number u ≡ o
-          → Gets ((if is_number k o then place_copied at at_value t k q indexes else by (refuse (BadType at_value))) s) (L s (λ g. W (a_place q indexes u is_const) → T t → W g))
-      by_number None e = leaves.leaf_by p types env consts _ s (λ c b. refuses _)
+          → Gets ((if is_number k o then place_copied at at_value t k q indexes else by (refuse (BadType at_value))) s) (LS s (a_place q indexes u is_const) t (λ g. W (a_place q indexes u is_const) → T t → W g))
+      by_number None e = refused s
       by_number (Some j) e = gets_if (nat_eq k j) (place_copied at at_value t k q indexes) _ s
-          (λ y. let n : k ≡ j = eqb-true k j y in leaves.leaf_kept p types env consts s _ (place_leaf at at_value t k q indexes s same)
+          (λ y. let n : k ≡ j = eqb-true k j y in
+          leaves.leaf_kept p types env consts _ s _
+          (leaves.leaf_narrow p types env consts (IsPlace p types t.place × IsPlace p types q) (W (a_place q indexes u is_const) × T t) s _ (λ h. (h.1.0.formed, h.0.0.formed)) (place_leaf at at_value t k q indexes s same))
           (λ g h hf ht. h (subst (IsPlaceOf p types q) (struct_number_is u j e ∙ ap struct (sym n)) hf.0, hf.1) ht))
-          (λ y. leaves.leaf_by p types env consts _ s (λ c b. refuses _))
+          (λ y. refused s)
   copied_leaf at at_value t k (a_copy steps q j) s same = gets_if (nat_eq k j) (copy_copied at at_value t k steps q) _ s
-      (λ y. let n : k ≡ j = eqb-true k j y in leaves.leaf_kept p types env consts s _ (copy_leaf at at_value t k steps q s same)
+      (λ y. let n : k ≡ j = eqb-true k j y in
+      leaves.leaf_kept p types env consts _ s _
+      (leaves.leaf_narrow p types env consts (IsPlace p types t.place) (W (a_copy steps q j) × T t) s _ (λ h. h.1.0.formed) (copy_leaf at at_value t k steps q s same))
       (λ g h hf ht. h (hf.0, subst (λ i. IsPlaceOf p types q (struct i)) (sym n) hf.1) ht))
-      (λ y. leaves.leaf_by p types env consts _ s (λ c b. refuses _))
-  copied_leaf at at_value t k (a_value v) s same = leaves.leaf_by p types env consts _ s (λ c b. refuses _)
+      (λ y. refused s)
+  copied_leaf at at_value t k (a_value v) s same = refused s
 
-  pub stored_leaf : (o : Option InOp) (at at_value : Pos) (t : Target) (f : Found) (s : State) → Gets (stored o at at_value t f s) (L s (λ g. W f → T t → W g))
-  stored_leaf None at at_value t f s = by (struct_number t.ty) refl
+  pub stored_leaf : (o : Option InOp) (at at_value : Pos) (t : Target) (f : Found) (s : State) → Gets (stored o at at_value t f s) (LS s f t (λ g. W f → T t → W g))
+  stored_leaf None at at_value t f s = by_number (struct_number t.ty) refl
     where
-      by : (o : Option ℕ) → struct_number t.ty ≡ o → Gets (stored_by at at_value t f o s) (L s (λ g. W f → T t → W g))
-      by (Some k) e = copied_leaf at at_value t k f s (struct_number_is t.ty k e)
-      by None e = leaves.leaf_then p types env consts s _ _ (places.as_value_leaf p types env consts at_value f s) (λ v s1. leaves.leaf_by p types env consts _ s1
-          (λ c b. says_under _ (λ hv. says_under _ (λ hf. says_under _ (λ ht. operations.assigned_ok p types s1.structs c.known.structs b.structs c.fields at at_value t v ht (hv hf))))))
-  stored_leaf (Some o) at at_value t f s = leaves.leaf_then p types env consts s _ _ (places.as_value_leaf p types env consts at_value f s) (λ v s1. leaves.leaf_by p types env consts _ s1
-      (λ c b. says_under _ (λ hv. says_under _ (λ hf. says_under _ (λ ht. operations.updated_ok p types s1.structs c.known.structs b.structs c.fields at false o t v ht (hv hf))))))
+      by_number : (o : Option ℕ) → struct_number t.ty ≡ o → Gets (stored_by at at_value t f o s) (LS s f t (λ g. W f → T t → W g))
+      by_number (Some k) e = copied_leaf at at_value t k f s (struct_number_is t.ty k e)
+      by_number None e = leaves.leaf_narrow p types env consts ⊤ (W f × T t) s _ (λ z. tt) (leaves.leaf_then p types env consts s _ _ (places.as_value_leaf p types env consts at_value f s)
+          (λ v s1. leaves.leaf_by p types env consts _ s1
+          (λ c b. says_under _ (λ hv. says_under _ (λ hf. says_under _ (λ ht. operations.assigned_ok p types s1.structs c.known.structs b.structs c.fields at at_value t v ht (hv hf)))))))
+  stored_leaf (Some o) at at_value t f s = leaves.leaf_narrow p types env consts ⊤ (W f × T t) s _ (λ z. tt) (leaves.leaf_then p types env consts s _ _ (places.as_value_leaf p types env consts at_value f s)
+      (λ v s1. leaves.leaf_by p types env consts _ s1
+      (λ c b. says_under _ (λ hv. says_under _ (λ hf. says_under _ (λ ht. operations.updated_ok p types s1.structs c.known.structs b.structs c.fields at false o t v ht (hv hf)))))))
 
   -- ---- calls of items
 
@@ -177,9 +194,9 @@ module _ (p : Program) (types : List Ty) (env : Env) (consts : List (Option Cons
           → Gets (after (ask env.instance k at o s) (λ j. λ u. Ok (env.first_dispatch + j, u))) (L s (λ f. IsBodyOf p f (taken_by k i None) i.result × is_given k None))
       asks (Some j) e target = leaves.leaf_give p types env consts (env.first_dispatch + j) s
           (λ c b. (asked_at j s (unmoved s) target (place_is s.asked s.asked 0 env.instance k j (λ n x q. subst (λ m. slice_get s.asked m ≡ Some x) (let z : n ≡ 0 + n = omega arith in z) q) e) b, tt))
-      asks None e target = leaves.leaf p types env consts (env.first_dispatch + length s.asked) s (new s)
-          (record { names = refl; tags = refl; structs = refl; locals = (unmoved s).locals; asked = behind_prefix s.asked (record { instance = env.instance; item = k; at = at } ∷ []) })
-          (λ c b. (target (new s) b (length s.asked) (record { instance = env.instance; item = k; at = at }) (at_end s.asked (record { instance = env.instance; item = k; at = at })) refl refl, tt))
+      asks None e target = leaves.leaf_with p types env consts (env.first_dispatch + length s.asked) s (new s)
+          (record { names = refl; tags = refl; structs = refl; locals = (unmoved s).locals; taken = (unmoved s).taken; asked = behind_prefix s.asked (record { instance = env.instance; item = k; at = at } ∷ []) })
+          (λ c b. (target (new s) b (length s.asked) (record { instance = env.instance; item = k; at = at }) (at_end s.asked (record { instance = env.instance; item = k; at = at })) refl refl, tt)) (λ z q. q)
 
       by : (o : Option ℕ) → ((t : State) → B t → TargetBelongs p types env consts t.asked k i o) → Gets (body_reached env at k o s) (L s (λ f. IsBodyOf p f (taken_by k i o) i.result × is_given k o))
       by (Some body) target = leaves.leaf_give p types env consts body s (λ c b. let h = target s b in (h.1, h.0))

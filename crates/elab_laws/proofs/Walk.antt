@@ -1,6 +1,6 @@
 -- The walk over trees: one equation for each form.
 use Rattle.std.proofs.Common.{inl, ◌≡◌, ℕ, ◌+◌, Bool, true, false, List, [], ◌∷◌, length, Option, Some, None, ap, ◌∙◌, refl, arith}
-use Rattle.std.specs.Prelude.{ℤ, pos, ◌+ℤ◌, ◌&&◌, slice_index_or}
+use Rattle.std.specs.Prelude.{⊤, ℤ, pos, ◌+ℤ◌, ◌&&◌, slice_index_or}
 use Rattle.nm_base.specs.declared.pos.Pos.{Pos}
 use Rattle.nm_base.specs.declared.int_type.IntType.{IntType}
 use Rattle.nm_base.specs.declared.int_type.IntType.TheVariants.{I16}
@@ -17,12 +17,12 @@ use Rattle.nesc_types.specs.Rule.{Rule, refuse}
 use Rattle.nesc_types.specs.Values.{Constant}
 use Rattle.elab_meaning.specs.Scope.{Env, Struct, item_from, lookup, lookup_tag, unique_at, count_of}
 use Rattle.elab_meaning.specs.Elab.{State, after, alone, by}
-use Rattle.elab_meaning.specs.Convert.{Typed, Found, assignable, int_of, null_type, value_found}
+use Rattle.elab_meaning.specs.Convert.{Target, Typed, Found, assignable, int_of, null_type, value_found}
 use Rattle.elab_meaning.specs.Operators.{Based, array_length, called, callee, cast_to, comma, count, counted, enum_constant, enum_tagged, item_named, new_name, no_fields, plain_base, port, read_from, same_count, struct_tagged, type_named, with_field_named}
 use Rattle.elab_meaning.specs.Ends.{ends_in, ends_in_all, ends_in_base, ends_in_groups, ends_in_items, ends_in_maybe, ends_in_names, ends_in_type}
 use Rattle.elab_meaning.specs.Wired.{all_arguments, base_of, constant_in, enum_items, fields, fields_of, found, is_const_at, item_value, join_exprs, lengths, measured, on_constants, parameter, reached, size_of, type_of, value_given, valued}
 use Rattle.elab_laws.specs.Known.{Each, IsKnown, IsKnownMeaning, NamesStruct}
-use Rattle.elab_laws.specs.Formed.{IsBodyOf, IsValueOf, IsWellFound, parameter_type}
+use Rattle.elab_laws.specs.Formed.{HasIndexes, IsBodyOf, IsPlaceOf, IsValueOf, IsWellFound, parameter_type}
 use Rattle.elab_laws.specs.Groups.{AllHavePlainGroups, ArePlainGroups, BaseHasPlainGroups, HasPlainGroups, ItemsHavePlainGroups, MaybeHasPlainGroups, NamesHavePlainGroups, TypeHasPlainGroups}
 use Rattle.elab_laws.proofs.Numbers.{character_is, chosen_is, computed_is, converted_is, number_is, prefixed_is}
 use Rattle.elab_laws.proofs.Steps.{Gets, gets_stopped, says_any, says_kept, says_under}
@@ -64,6 +64,9 @@ module _ (p : Program) (types : List Ty) (env : Env) (consts : List (Option Cons
   known_here : (n : ℕ) (st : State) → IsKnown n st → (name : List ℕ) → MaybeIs (IsKnownMeaning st.structs) (lookup st.names name)
   known_here n st k name = lookup_is (IsKnownMeaning st.structs) st.names name k.names
 
+  abbrev T : Target → Type 0
+  T x = IsPlaceOf p types x.place x.ty × HasIndexes p types x.place x.indexes
+
   -- ---- forms, given what their parts do
 
   cast_does : (a b : ℕ) (e : s.Expr) (st : State) (r : Rule (Ty × State)) → Gets r (DT a st) → ((t : State) → Gets (found env consts e t) (DF b W t))
@@ -99,12 +102,18 @@ module _ (p : Program) (types : List Ty) (env : Env) (consts : List (Option Cons
     found_does (s.binary o a b at) g st = parts.found_then p types env consts (ends_in a) (ends_in b) (ends_in a + ends_in b) st _ _ refl
         (parts.value_does p types env consts (ends_in a) a (found env consts a) st (found_does a g.0 st))
         (λ x t. parts.found_then p types env consts (ends_in b) 0 (ends_in b) t _ _ (omega arith) (parts.value_does p types env consts (ends_in b) b (found env consts b) t (found_does b g.1 t))
-        (λ y u. does.does_kept p types env consts 0 u _ (parts.found_leaf p types env consts u _ (places.binary_leaf p types env consts o at x y u)) (λ n v z k l w. tt) (λ v z c l w. tt) (λ f h hy hx. h hx hy)))
-    found_does (s.assign o a b at) g st = parts.found_then p types env consts (ends_in a) (ends_in b) (ends_in a + ends_in b) st _ _ refl (found_does a g.0 st)
-        (λ f t. parts.found_then p types env consts 0 (ends_in b) (ends_in b) t _ _ (omega arith)
+        (λ y u. parts.found_kept p types env consts 0 u _ (parts.found_leaf p types env consts u _ (places.binary_leaf p types env consts o at x y u)) (λ f h hy hx. h hx hy)))
+    found_does (s.assign o a b at) g st = parts.placed_alone p types env consts (ends_in a + ends_in b) st _
+        (parts.placed_then p types env consts ⊤ (λ f. W f) (ends_in a) (ends_in b) (ends_in a + ends_in b) st _ _ refl (found_does a g.0 st)
+        (λ f t. parts.placed_then p types env consts (W f) (λ x. T x) 0 (ends_in b) (ends_in b) t _ _ (omega arith)
         (parts.found_by p types env consts (assignable at f) t (λ c k. says_under _ (λ h. operations.assignable_says p types t.structs c.known.structs k.structs c.fields at f h)))
-        (λ x u. parts.found_then p types env consts (ends_in b) 0 (ends_in b) u _ _ (omega arith) (found_does b g.1 u)
-        (λ y v. does.does_kept p types env consts 0 v _ (parts.found_leaf p types env consts v _ (stored.stored_leaf p types env consts o at (pos_of b) x y v)) (λ n w z k l i. tt) (λ w z c l i. tt) (λ z h hy hx hf. h hy (hx hf)))))
+        (λ x u. parts.placed_then p types env consts (T x) (λ y. W y × T x) (ends_in b) 0 (ends_in b) u _ _ (omega arith) (found_does b g.1 u)
+        (λ y v. does.does_kept p types env consts (λ w. parts.Placed p types env consts v w × (W y × T x)) (λ w. parts.Placed p types env consts v w × (W y × T x)) 0 v _
+        (parts.placed_leaf p types env consts (W y × T x) v _ (stored.stored_leaf p types env consts o at (pos_of b) x y v))
+        (λ n w z k l i. tt) (λ w z c l i. tt) (λ z h hy hx hf. h hy (hx hf)) (λ w h. h))
+        (λ y wy tx. (wy, tx)))
+        (λ x h wf. h wf))
+        (λ f wf z. wf))
     found_does (s.choice a b c at) g st = parts.found_then p types env consts (ends_in a) (ends_in b + ends_in c) (ends_in a + (ends_in b + ends_in c)) st _ _ refl
         (parts.value_does p types env consts (ends_in a) a (found env consts a) st (found_does a g.0 st))
         (λ x t. parts.found_then p types env consts (ends_in b) (ends_in c) (ends_in b + ends_in c) t _ _ refl (parts.value_does p types env consts (ends_in b) b (found env consts b) t (found_does b g.1 t))
@@ -184,7 +193,7 @@ module _ (p : Program) (types : List Ty) (env : Env) (consts : List (Option Cons
         (λ z v. parts.plain_give p types env consts (constants.chosen x y z) v (λ n k hz hy hx. chosen_is x y z))))
     constant_does whole (s.comma a b at) true g st = gets_refused st
     constant_does whole (s.comma a b at) false g st = parts.plain_then p types env consts (ends_in a) (ends_in b) (ends_in a + ends_in b) st _ _ refl (constant_does whole a false g.0 st)
-        (λ x t. does.does_kept p types env consts (ends_in b) t _ (constant_does whole b false g.1 t) (λ n u y k l h hx. h) (λ u y c l h. tt) (λ y h. tt))
+        (λ x t. parts.plain_kept p types env consts (ends_in b) t _ (constant_does whole b false g.1 t) (λ n u y k l h hx. h) (λ u y c l h. tt))
     constant_does whole (s.cast x e at) evaluated g st = parts.plain_then p types env consts (ends_in_type x) (ends_in e) (ends_in_type x + ends_in e) st _ _ refl (ended.plainly p types env consts (ends_in_type x) st _ (type_does at x g.0 st))
         (λ to t. parts.plain_then p types env consts (ends_in e) 0 (ends_in e) t _ _ (omega arith) (constant_does whole e evaluated g.1 t)
         (λ c u. parts.plain_by p types env consts _ u (λ n k. says_under _ (λ hc. says_under _ (λ ht. converted_is (pos_of e) (int_of to) c)))))
@@ -206,9 +215,9 @@ module _ (p : Program) (types : List Ty) (env : Env) (consts : List (Option Cons
     type_does at (s.type_spec base stars dims is_const) g st = parts.type_then p types env consts (ends_in_base base) (ends_in_all dims) (ends_in_base base + ends_in_all dims) st _ _ refl (base_does at base g.0 st)
         (λ b t1. parts.type_then p types env consts 0 (ends_in_all dims) (ends_in_all dims) t1 _ _ (omega arith) (ended.starred_does p types env consts at stars b t1)
         (λ u t2. parts.type_then p types env consts (ends_in_all dims) 0 (ends_in_all dims) t2 _ _ (omega arith) (ended.longer p types env consts (ends_in_all dims) t2 _ (lengths_do dims g.1 t2))
-        (λ ns t3. does.does_kept p types env consts 0 t3 _ (ended.dimensioned_does p types env consts at u ns t3)
+        (λ ns t3. parts.plain_kept p types env consts 0 t3 _ (ended.dimensioned_does p types env consts at u ns t3)
         (λ n t v k l d h stars_of based. d (may_type_later t2.structs t3.structs h.1 n u (stars_of based)))
-        (λ t v c l d h stars_of based. d (known_type_later t2.structs t3.structs h.1 u (stars_of based))) (λ v z. tt))))
+        (λ t v c l d h stars_of based. d (known_type_later t2.structs t3.structs h.1 u (stars_of based))))))
 
     pub lengths_do : (es : s.Exprs) → AllHavePlainGroups es → (st : State) → Gets (lengths env consts es st) (Does p types env consts (ends_in_all es) Any Free Untyped st)
     lengths_do s.no_exprs g st = parts.plain_give p types env consts [] st (λ n k. tt)
@@ -217,8 +226,8 @@ module _ (p : Program) (types : List Ty) (env : Env) (consts : List (Option Cons
         (λ m z. parts.plain_then p types env consts (ends_in_all es) 0 (ends_in_all es) t _ _ (omega arith) (lengths_do es g.1 t) (λ ms u. parts.plain_give p types env consts (m ∷ ms) u (λ n k h hc. tt))))
 
     pub base_does : (at : Pos) (b : s.Base) → BaseHasPlainGroups b → (st : State) → Gets (base_of env consts at b st) (DB (ends_in_base b) st)
-    base_does at s.void g st = does.does_give p types env consts (plain_base void) st (λ n k. (inl tt, tt)) (λ c. (tt, tt)) (λ c b. tt)
-    base_does at (s.int t) g st = does.does_give p types env consts (plain_base (int t)) st (λ n k. may_of_known n st.structs (int t) (int_known st.structs t)) (λ c. int_known st.structs t) (λ c b. tt)
+    base_does at s.void g st = parts.type_give p types env consts (plain_base void) st (λ n k. (inl tt, tt)) (λ c. (tt, tt))
+    base_does at (s.int t) g st = parts.type_give p types env consts (plain_base (int t)) st (λ n k. may_of_known n st.structs (int t) (int_known st.structs t)) (λ c. int_known st.structs t)
     base_does at (s.named m) g st = parts.type_by p types env consts (type_named at (lookup st.names m)) st
         (λ n k. says_kept _ (type_named_is n st.structs at (lookup st.names m) (known_here n st k m)) (λ b h. may_of_known n st.structs b.ty h))
         (λ c. type_named_is 0 st.structs at (lookup st.names m) (known_here (length st.structs) st c.known m))
@@ -227,13 +236,13 @@ module _ (p : Program) (types : List Ty) (env : Env) (consts : List (Option Cons
         (λ n k. struct_tagged_is n st.structs at (lookup_tag st.tags tag) (lookup_tag_is (NamesStruct n) st.tags tag k.tags))
         (λ c. struct_settled st.structs at (lookup_tag st.tags tag) (lookup_tag_is (NamesStruct (length st.structs)) st.tags tag c.known.tags))
     base_does at (s.struct_of tag groups) g st = ended.struct_does p types env consts at (ends_in_groups groups) tag st (fields env consts at no_fields groups)
-        (λ t. does.does_kept p types env consts (ends_in_groups groups) t _ (fields_do at no_fields groups g t) (λ n u x k l h. h (none_yet n t.structs)) (λ u x c l h. tt) (λ x h. tt))
+        (λ t. parts.plain_kept p types env consts (ends_in_groups groups) t _ (fields_do at no_fields groups g t) (λ n u x k l h. h (none_yet n t.structs)) (λ u x c l h. tt))
     base_does at (s.enum None) g st = gets_refused st
     base_does at (s.enum (Some tag)) g st = parts.type_by p types env consts (enum_tagged at (lookup_tag st.tags tag)) st
         (λ n k. says_kept _ (enum_tagged_is st.structs at (lookup_tag st.tags tag)) (λ b h. may_of_known n st.structs b.ty h)) (λ c. enum_tagged_is st.structs at (lookup_tag st.tags tag))
     base_does at (s.enum_of tag items) g st = parts.type_then p types env consts 0 (ends_in_items items) (ends_in_items items) st _ _ (omega arith) (ended.enum_tag_does p types env consts at tag st)
         (λ z t. parts.type_then p types env consts (ends_in_items items) 0 (ends_in_items items) t _ _ (omega arith) (items_do (pos 0) items g t)
-        (λ w u. does.does_give p types env consts (plain_base (int I16)) u (λ n k h i. may_of_known n u.structs (int I16) (int_known u.structs I16)) (λ c h i. int_known u.structs I16) (λ c b. tt)))
+        (λ w u. parts.type_give p types env consts (plain_base (int I16)) u (λ n k h i. may_of_known n u.structs (int I16) (int_known u.structs I16)) (λ c h i. int_known u.structs I16)))
 
     pub fields_do : (at : Pos) (done : Struct) (gs : s.Groups) → ArePlainGroups gs → (st : State) → Gets (fields env consts at done gs st) (DS (ends_in_groups gs) done st)
     fields_do at done s.no_groups g st = parts.plain_give p types env consts done st (λ n k h. h)
@@ -241,8 +250,8 @@ module _ (p : Program) (types : List Ty) (env : Env) (consts : List (Option Cons
         (ends_in_type (s.type_spec base stars dims is_const) + (ends_in_names names + ends_in_groups rest)) st _ _ (no_dims (ends_in_base base) dims (ends_in_names names + ends_in_groups rest) g.0)
         (ended.plainly p types env consts (ends_in_base base) st _ (base_does at base g.1 st))
         (λ b t. parts.plain_then p types env consts (ends_in_names names) (ends_in_groups rest) (ends_in_names names + ends_in_groups rest) t _ _ refl (names_do at b is_const done names g.2 t)
-        (λ more u. does.does_kept p types env consts (ends_in_groups rest) u _ (fields_do at more rest g.3 u)
-        (λ n v x k l h names_of base_of first. h (names_of base_of.0 (fields_later n st.structs t.structs base_of.1 done first))) (λ v x c l h. tt) (λ x h. tt)))
+        (λ more u. parts.plain_kept p types env consts (ends_in_groups rest) u _ (fields_do at more rest g.3 u)
+        (λ n v x k l h names_of base_of first. h (names_of base_of.0 (fields_later n st.structs t.structs base_of.1 done first))) (λ v x c l h. tt)))
 
     pub names_do : (at : Pos) (b : Based) (said : Bool) (done : Struct) (ds : s.Declarators) → NamesHavePlainGroups ds → (st : State)
         → Gets (fields_of env consts at b said done ds st) (Does p types env consts (ends_in_names ds) (λ n t x. MayBase n st.structs b.ty → AreFields n st.structs done → AreFields n t.structs x) Free Untyped st)
@@ -253,12 +262,12 @@ module _ (p : Program) (types : List Ty) (env : Env) (consts : List (Option Cons
         (λ ns t2. parts.plain_then p types env consts 0 (ends_in_names rest) (ends_in_names rest) t2 _ _ (omega arith) (ended.plainly p types env consts 0 t2 _ (ended.dimensioned_does p types env consts at u ns t2))
         (λ v t3. parts.plain_then p types env consts 0 (ends_in_names rest) (ends_in_names rest) t3 _ _ (omega arith)
         (ended.plainly p types env consts 0 t3 _ (field_does at done name v (is_const_at stars said b.is_const) t3))
-        (λ more t4. does.does_kept p types env consts (ends_in_names rest) t4 _ (names_do at b said more rest g.1 t4)
+        (λ more t4. parts.plain_kept p types env consts (ends_in_names rest) t4 _ (names_do at b said more rest g.1 t4)
         (λ n t x k l h field_of dims_of lengths_of stars_of based first. h
         (may_base_later t3.structs t4.structs field_of.1 n b.ty (may_base_later t2.structs t3.structs dims_of.1 n b.ty (may_base_later t1.structs t2.structs lengths_of.1 n b.ty (may_base_later st.structs t1.structs stars_of.1 n b.ty based))))
         (field_of.0 (fields_later n t2.structs t3.structs dims_of.1 done (fields_later n t1.structs t2.structs lengths_of.1 done (fields_later n st.structs t1.structs stars_of.1 done first)))
         (dims_of.0 (may_type_later t1.structs t2.structs lengths_of.1 n u (stars_of.0 based)))))
-        (λ t x c l h. tt) (λ x h. tt)))))
+        (λ t x c l h. tt)))))
 
     pub items_do : (next : ℤ) (is : s.Items) → ItemsHavePlainGroups is → (st : State) → Gets (enum_items env consts next is st) (Does p types env consts (ends_in_items is) Any Free Untyped st)
     items_do next s.no_items g st = parts.plain_give p types env consts tt st (λ n k. tt)
@@ -266,7 +275,7 @@ module _ (p : Program) (types : List Ty) (env : Env) (consts : List (Option Cons
         (λ z t. rule_then (enum_constant at z) t _ (enum_says at z)
         (λ c h. rule_then (new_name at t.first_name t.names name) t _ (says_any _)
         (λ y w. parts.plain_then p types env consts 0 (ends_in_items rest) (ends_in_items rest) t _ _ (omega arith) (ended.name_does p types env consts name c h t)
-        (λ x u. does.does_kept p types env consts (ends_in_items rest) u _ (items_do (z +ℤ pos 1) rest g.1 u) (λ n v q k l i j m. tt) (λ v q k l i. tt) (λ q i. tt)))))
+        (λ x u. parts.plain_kept p types env consts (ends_in_items rest) u _ (items_do (z +ℤ pos 1) rest g.1 u) (λ n v q k l i j m. tt) (λ v q k l i. tt)))))
 
     pub item_value_does : (next : ℤ) (e : s.MaybeExpr) → MaybeHasPlainGroups e → (st : State) → Gets (item_value env consts next e st) (Does p types env consts (ends_in_maybe e) Any Free Untyped st)
     item_value_does next s.no_expr g st = parts.plain_give p types env consts next st (λ n k. tt)

@@ -63,6 +63,10 @@ module _ (p : Program) (types : List Ty) (env : Env) (values : List (Option Cons
     pub names : Each (λ (e : Entry). MeaningBelongs e.meaning) s.names
     pub items : (k : ℕ) (i : Item) → slice_get env.items k ≡ Some i → TargetBelongs s.asked k i i.body
 
+-- locals that were made are of types of the program, where the others are
+abbrev pub KeepsLocals : Program → (old new : State) → Type 0
+KeepsLocals p old new = Each (λ (t : Ty). IsType p.structs t) old.locals → Each (λ (t : Ty). IsType p.structs t) new.locals
+
 -- ---- what is found is well formed in it
 
 module _ (p : Program) (types : List Ty) where

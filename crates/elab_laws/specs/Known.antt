@@ -106,8 +106,24 @@ pub record IsClosed (s : State) : Type 0 where
 
 -- ---- what elaboration adds
 
+-- of names the constants of enums alone
+abbrev pub IsConstantMeaning : Meaning → Type 0
+IsConstantMeaning (scope.object k t is_const) = ⊥
+IsConstantMeaning (scope.local x t is_const) = ⊥
+IsConstantMeaning (scope.function body params result) = ⊥
+IsConstantMeaning (scope.task k) = ⊥
+IsConstantMeaning (scope.constant t x) = ⊤
+IsConstantMeaning (scope.type t is_const) = ⊥
+
+pub record AddsConstants (xs ys : List Entry) : Type 0 where
+  pub more : List Entry
+  pub is : ys ≡ xs ++ more
+  pub constants : Each (λ (e : Entry). IsConstantMeaning e.meaning) more
+
 pub record Grows (s t : State) : Type 0 where
-  pub names : IsPrefix s.names t.names
+  pub names : AddsConstants s.names t.names
+  pub tags : IsPrefix s.tags t.tags
   pub structs : IsPrefix s.structs t.structs
   pub locals : IsPrefix s.locals t.locals
+  pub taken : IsPrefix s.taken t.taken
   pub asked : IsPrefix s.asked t.asked
