@@ -16,3 +16,4 @@ mod Calls
 mod Ended
 mod Walk
 mod Law
+mod WorkedState

@@ -2,3 +2,4 @@ pub mod Known
 pub mod Formed
 pub mod Groups
 pub mod WellFormed
+pub mod WorkedState

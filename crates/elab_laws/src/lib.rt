@@ -3,4 +3,4 @@
 
 mod laws;
 
-pub use laws::elaboration_is_well_formed;
+pub use laws::{elaboration_is_well_formed, worked_state};
