@@ -1,0 +1,11 @@
+pub mod Each
+pub mod Same
+pub mod Calls
+pub mod Switches
+pub mod Flat
+pub mod Pairs
+pub mod Takes
+pub mod Formed
+pub mod FormedBody
+pub mod Statements
+pub mod Logical

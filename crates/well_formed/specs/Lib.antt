@@ -1,0 +1,4 @@
+pub mod Kinds
+pub mod Scopes
+pub mod Exits
+pub mod Formed

@@ -1,0 +1,16 @@
+//! Whether a wired program is well formed.
+#![tactic(auto)]
+
+mod bodies;
+mod exprs;
+mod kind;
+mod measure;
+mod operators;
+mod program;
+mod scope;
+mod stmts;
+mod types;
+mod ways;
+
+pub use measure::{MOST_DEPTH, MOST_LEVELS, MOST_NODES};
+pub use program::{has_few_nodes, is_well_formed};
