@@ -1,5 +1,5 @@
 -- Readings, one file on.
-use Rattle.std.proofs.Common.{◌≡◌, ℕ, zero, suc, Bool, true, false, List, [], ◌∷◌, ◌++◌, reverse, Result, Ok, Err, refl, ap, ◌∙◌}
+use Rattle.std.proofs.Common.{◌≡◌, ℕ, zero, suc, ◌+◌, Bool, true, false, List, [], ◌∷◌, ◌++◌, reverse, Result, Ok, Err, refl, ap, ◌∙◌, subst, arith}
 use Rattle.std.proofs.lemmas.List.{reverse-append}
 use Rattle.nm_base.specs.declared.fault.Fault.{Fault}
 use Rattle.wire_reading.specs.declared.opener.Need.{Need}
@@ -77,3 +77,14 @@ module _ {State : Type 0} where
 -- the file on top of the stack
 pub top : (waiting rest : List Need) (need : Need) → waiting ≡ rest ++ need ∷ [] → reverse waiting ≡ need ∷ reverse rest
 top waiting rest need e = ap reverse e ∙ reverse-append rest (need ∷ [])
+
+-- so many levels deeper
+module _ {State : Type 0} (Opens : Opening State) where
+  pub all_deeper : (more l : ℕ) (needs : List Need) (known : List Name) (s : State) (answer : Answer State) → Each (ReadAt Opens l) needs known s answer → Each (ReadAt Opens (more + l)) needs known s answer
+  all_deeper zero l needs known s answer e =
+      let same : l ≡ zero + l = omega arith in
+      subst (λ (k : ℕ). Each (ReadAt Opens k) needs known s answer) same e
+  all_deeper (suc more) l needs known s answer e =
+      let same : suc (more + l) ≡ suc more + l = omega arith in
+      subst (λ (k : ℕ). Each (ReadAt Opens k) needs known s answer) same
+      (each_within (ReadAt Opens (more + l)) (ReadAt Opens (suc (more + l))) (level_more Opens (more + l)) needs known s answer (all_deeper more l needs known s answer e))

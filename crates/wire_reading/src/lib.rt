@@ -1,9 +1,11 @@
 //! The order in which the files of an application are read.
 #![tactic(auto)]
 
+mod laws;
 mod opener;
 mod reading;
 mod waiting;
 
+pub use laws::{one_reading, worked_rows};
 pub use opener::{Need, Opener};
 pub use reading::read_files;
