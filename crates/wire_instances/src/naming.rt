@@ -5,7 +5,7 @@ ghost use Rattle.std.specs.List.{list_any};
 ghost use Rattle.wire_instances.specs.Instances.{has_instance, fitting, asks};
 
 use crate::plan::{Line, Made, Plan, Unmet};
-use nm_base::Pos;
+use nm_base::{NoMemory, Pos};
 use std::alloc::{AllocError, AllocFailed};
 
 /// Why the instances were not created.
@@ -15,6 +15,17 @@ pub enum Stop {
     /// More than `MAX_INSTANCES` are asked for.
     Instances,
     NoMemory,
+}
+
+impl From<NoMemory> for Stop {
+    ghost use Rattle.std.specs.Prelude.{◌≡◌};
+    ghost use Rattle.wire_instances.specs.declared.naming.Stop.TheVariants.{NoMemory};
+
+    ghost from_gives = { λ _ e. e ≡ NoMemory };
+
+    fn from(_error: NoMemory) -> Stop {
+        Stop::NoMemory
+    }
 }
 
 impl From<AllocError> for Stop {

@@ -25,7 +25,8 @@ impl Model for NameTable {
     ghost view = { λ t. texts t.names.keys };
 }
 
-fn copied(alloc: Global, text: &[u8]) -> Result<Vec<u8>, NoMemory>
+/// A copy of the text.
+pub fn copied(alloc: Global, text: &[u8]) -> Result<Vec<u8>, NoMemory>
     ensures { IfOk result (λ v. v.items ≡ text.now) }
 {
     Ok(text.to_vec(alloc)?)
