@@ -1,3 +1,4 @@
 pub mod Faces
+pub mod Heads
 pub mod Scope
 pub mod Units

@@ -2,8 +2,12 @@
 #![tactic(auto)]
 
 mod face;
+mod head;
 mod loaded;
+mod numbers;
 mod scope;
+mod table;
 
-pub use face::faces_of;
+pub use head::head_refusal;
 pub use loaded::Loaded;
+pub use table::Table;

@@ -1,0 +1,10 @@
+use Rattle.std.proofs.Common.{◌≡◌, length}
+use Rattle.wire_units.specs.Scope.{declare_all}
+use Rattle.wire_units.specs.Faces.{all_at}
+use Rattle.wire_units.proofs.face.declare_params.Given as goal
+
+abbrev pub invariant-loop-param : goal.invariant-loop-param
+invariant-loop-param l = declare_all l.scope (all_at l.at l.rest) ≡ declare_all l.fn.scope (all_at l.at l.params)
+
+abbrev pub decreases-loop-param : goal.decreases-loop-param
+decreases-loop-param l = length l.rest
