@@ -1,3 +1,5 @@
+pub mod Block
+pub mod BlockView
 pub mod Faces
 pub mod Heads
 pub mod Scope

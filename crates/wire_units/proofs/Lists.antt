@@ -1,0 +1,21 @@
+-- Lists of trees, one element after the other.
+use Rattle.std.proofs.Common.{◌≡◌, ℕ, suc, ◌+◌, ◌<◌, List, ◌∷◌, drop, length, get_or, sym, ap, ◌∙◌, arith}
+use Rattle.std.proofs.Math.Seq.{drop-cons}
+use Rattle.std.proofs.Math.ListN.{drop_of_length-le}
+use Rattle.nm_base.specs.declared.pos.Pos.{Pos}
+use Rattle.nesc_tree.specs.declared.tree.FieldGroup as field_group
+use Rattle.wire_units.specs.declared.block.Block.{Block}
+use Rattle.wire_units.specs.Scope.{Scope, ◌>>=◌}
+use Rattle.wire_units.specs.Block.{groups_in, group_in}
+use Rattle.wire_units.specs.BlockView.{group_of, groups_of}
+
+-- element k stands at the front of what is left
+pub next_of : {A : Type 0} (xs : List A) (k : ℕ) (x : A) → k < length xs → x ≡ get_or xs k x → drop k xs ≡ x ∷ drop (k + 1) xs
+next_of xs k x below is = let more : suc k ≡ k + 1 = omega arith in
+    drop-cons xs k x below ∙ ap (λ y. y ∷ drop (suc k) xs) (sym is) ∙ ap (λ j. x ∷ drop j xs) more
+
+pub groups_next : (at : Pos) (b : Block) (fields : Scope) (xs : List field_group.FieldGroup) (k : ℕ) (x : field_group.FieldGroup) → k < length xs → x ≡ get_or xs k x
+    → groups_in at (groups_of (drop k xs)) b fields ≡ (group_in at (group_of x) b fields >>= λ behind. groups_in at (groups_of (drop (k + 1) xs)) behind.0 behind.1)
+groups_next at b fields xs k x below is = ap (λ ys. groups_in at (groups_of ys) b fields) (next_of xs k x below is)
+
+pub ruleset lists = (groups_next, drop_of_length-le)
