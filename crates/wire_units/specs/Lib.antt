@@ -2,5 +2,6 @@ pub mod Block
 pub mod BlockView
 pub mod Faces
 pub mod Heads
+pub mod Lines
 pub mod Scope
 pub mod Units

@@ -4,6 +4,7 @@
 mod block;
 mod face;
 mod head;
+mod line;
 mod loaded;
 mod numbers;
 mod scope;
@@ -12,6 +13,7 @@ mod types;
 
 pub use block::Block;
 pub use head::head_refusal;
+pub use line::lines_of;
 pub use loaded::Loaded;
 pub use table::Table;
 pub use types::declare_type;
