@@ -1,5 +1,5 @@
 -- Lists of trees, one element after the other.
-use Rattle.std.proofs.Common.{◌≡◌, ℕ, suc, ◌+◌, ◌<◌, List, ◌∷◌, drop, length, get_or, sym, ap, ◌∙◌, arith, refl, [], Err}
+use Rattle.std.proofs.Common.{◌≡◌, ℕ, suc, ◌+◌, ◌<◌, List, ◌∷◌, drop, length, get_or, sym, ap, ◌∙◌, arith, refl, [], Err, map}
 use Rattle.std.proofs.Math.Seq.{drop-cons}
 use Rattle.std.proofs.Math.ListN.{drop_of_length-le}
 use Rattle.nm_base.specs.declared.pos.Pos.{Pos}
@@ -9,6 +9,7 @@ use Rattle.wire_units.specs.declared.loaded.Loaded.{Loaded}
 use Rattle.wire_units.specs.declared.block.Block.{Block}
 use Rattle.wire_instances.specs.declared.plan.Unmet.{Unmet}
 use Rattle.wire_instances.specs.declared.plan.Line.TheVariants as line
+use Rattle.wire_units.specs.Plans.{plan_of}
 use Rattle.wire_units.specs.Lines.{asked, and_behind, lines_from}
 use Rattle.wire_units.specs.Scope.{Scope, ◌>>=◌}
 use Rattle.wire_units.specs.Block.{groups_in, group_in}
@@ -30,6 +31,12 @@ lines_next units b xs k x below is = ap (lines_from units b) (next_of xs k x bel
 pub ruleset lines = (lines_next, drop_of_length-le)
 
 pub ruleset lists = (groups_next, drop_of_length-le)
+
+pub plans_next : (units xs : List Loaded) (k : ℕ) (x : Loaded) → k < length xs → x ≡ get_or xs k x
+    → map (plan_of units) (drop k xs) ≡ plan_of units x ∷ map (plan_of units) (drop (k + 1) xs)
+plans_next units xs k x below is = ap (map (plan_of units)) (next_of xs k x below is)
+
+pub ruleset plans = (plans_next, drop_of_length-le)
 
 -- a refused line is the last one
 pub refused_line : (units : List Loaded) (b : Block) (x : ConfLine) (xs : List ConfLine) (e : Unmet) → asked units b x ≡ Err e → lines_from units b (x ∷ xs) ≡ line.Refused e ∷ []
