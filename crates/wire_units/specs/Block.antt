@@ -1,6 +1,6 @@
 -- What a declaration of a configuration declares, in one block (C99 6.2.1 and 6.2.3): names, and the tags of structs and enums
 -- beside them. A tag, and a field of a struct, is told at the place of the whole declaration, since trees have no other.
-use Rattle.std.specs.Prelude.{ℕ, List, [], ◌∷◌, Option, Some, None, Result, Ok, Err}
+use Rattle.std.specs.Prelude.{ℕ, List, [], Option, Some, None, Result, Ok}
 use Rattle.nm_base.specs.declared.pos.Pos.{Pos}
 use Rattle.nesc_tree.specs.Plain.{TypeSpec, Base, Groups, Declarators, Items}
 use Rattle.nesc_tree.specs.Plain as p

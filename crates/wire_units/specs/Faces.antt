@@ -1,5 +1,5 @@
 -- Interfaces as the specifications of components see them.
-use Rattle.std.specs.Prelude.{ℕ, List, [], ◌∷◌, length, map, Option, Some, None, option_and_then, slice_get, Ok}
+use Rattle.std.specs.Prelude.{List, [], length, map, Option, Some, None, option_and_then, slice_get}
 use Rattle.nm_base.specs.declared.pos.Pos.{Pos}
 use Rattle.nesc_tree.specs.declared.components.Part.{Part}
 use Rattle.nesc_tree.specs.declared.components.Part.TheVariants as part
@@ -8,7 +8,7 @@ use Rattle.nesc_tree.specs.declared.components.Sig.{Sig}
 use Rattle.wire_units.specs.declared.loaded.Loaded.{Loaded}
 use Rattle.wire_units.specs.declared.face.Face.{Face}
 use Rattle.wire_units.specs.Units.{Name, number_of}
-use Rattle.wire_units.specs.Scope.{Scope, Judged, Declared, ◌>>=◌, declare_all, fault_of}
+use Rattle.wire_units.specs.Scope.{Judged, Declared, ◌>>=◌, declare_all, fault_of}
 
 -- names that are declared at one place
 abbrev pub all_at : Pos → List Name → List Declared

@@ -4,5 +4,6 @@ pub mod Faces
 pub mod Heads
 pub mod Lines
 pub mod Plans
+pub mod Rows
 pub mod Scope
 pub mod Units

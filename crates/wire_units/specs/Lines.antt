@@ -1,6 +1,6 @@
 -- What the lines of a configuration ask of creation. The implementation is one block: the names of its components and of its
 -- declarations. What stands behind a refused line is not asked for.
-use Rattle.std.specs.Prelude.{ℕ, Bool, cond, List, [], ◌∷◌, length, map, Option, Some, None, Result, Ok, Err}
+use Rattle.std.specs.Prelude.{ℕ, List, [], ◌∷◌, length, Option, Some, None, Result, Ok, Err}
 use Rattle.nm_base.specs.declared.pos.Pos.{Pos}
 use Rattle.nesc_tree.specs.declared.components.ConfLine.{ConfLine}
 use Rattle.nesc_tree.specs.declared.components.ConfLine.TheVariants as conf

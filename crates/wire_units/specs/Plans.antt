@@ -1,5 +1,5 @@
 -- What creation sees of the files of an application, and its instances.
-use Rattle.std.specs.Prelude.{ℕ, List, [], length, map, Option, Some, None, option_and_then, slice_get, Result}
+use Rattle.std.specs.Prelude.{ℕ, List, [], length, map, Option, Some, None, Result}
 use Rattle.nm_base.specs.declared.pos.Pos.{Pos}
 use Rattle.nesc_tree.specs.declared.components.Head.{Head}
 use Rattle.nesc_tree.specs.declared.components.GenericParam.{GenericParam}

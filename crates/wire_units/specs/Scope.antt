@@ -1,5 +1,5 @@
 -- Declarations in one scope: the first that declares a name again is refused.
-use Rattle.std.specs.Prelude.{ℕ, Bool, cond, List, [], ◌∷◌, ◌++◌, Option, Some, None, Result, Ok, Err}
+use Rattle.std.specs.Prelude.{ℕ, cond, List, [], ◌∷◌, ◌++◌, Option, Some, None, Result, Ok, Err}
 use Rattle.std.specs.List.{list_any}
 use Rattle.nm_base.specs.declared.pos.Pos.{Pos}
 use Rattle.wire_instances.specs.declared.plan.Unmet.{Unmet}

@@ -9,9 +9,11 @@ mod line;
 mod loaded;
 mod numbers;
 mod plan;
+mod rows;
 mod scope;
 mod table;
 mod types;
 
 pub use application::instances;
 pub use loaded::Loaded;
+pub use rows::worked_rows;

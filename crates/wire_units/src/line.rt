@@ -35,12 +35,7 @@ fn given(args: &Option<List<GenericArg>>) -> Option<usize>
     }
 }
 
-fn asked(
-    alloc: Global,
-    table: &Table,
-    block: &mut Block,
-    line: &ConfLine,
-) -> Result<Line, Stop>
+fn asked(alloc: Global, table: &Table, block: &mut Block, line: &ConfLine) -> Result<Line, Stop>
     ensures asked { IfOk result (λ asks. asked table.now.units.now block.old line.now ≡ Ok (asks, block.new)) }
     ensures refused { (unmet : UnmetOf) → result ≡ Err (Stop.Unmet unmet) → asked table.now.units.now block.old line.now ≡ Err unmet }
 {
@@ -71,11 +66,7 @@ fn asked(
 
 #[tactic(auto, using(crate::proofs::Lists::lines))]
 /// What the lines of a configuration ask of creation, up to the first that is refused.
-pub fn lines_of(
-    alloc: Global,
-    table: &Table,
-    lines: &[ConfLine],
-) -> Result<Vec<Line>, NoMemory>
+pub fn lines_of(alloc: Global, table: &Table, lines: &[ConfLine]) -> Result<Vec<Line>, NoMemory>
     ensures { IfOk result (λ asks. asks.items ≡ lines_of table.now.units.now lines.now) }
 {
     let mut block = Block::new(alloc);

@@ -1,7 +1,7 @@
 use Rattle.std.proofs.Common.{rules, ◌≡◌, ◌++◌, ◌+◌, ◌∷◌, [], Err, drop, sym, ap, ◌∙◌}
 use Rattle.wire_instances.specs.declared.naming.Stop.TheVariants as stop
 use Rattle.wire_instances.specs.declared.plan.Line.TheVariants as line
-use Rattle.wire_units.specs.Lines.{lines_from, asked}
+use Rattle.wire_units.specs.Lines.{asked}
 use Rattle.wire_units.proofs.Lists.{lines_next, refused_line}
 use Rattle.wire_units.proofs.line.lines_of.Goals as goal
 
