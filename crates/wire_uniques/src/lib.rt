@@ -1,6 +1,8 @@
 //! The uses of `unique` in the sources of an application, and their numbers.
 #![tactic(auto)]
 
+mod declarations;
 mod expressions;
+mod statements;
 
-pub use expressions::in_expr;
+pub use statements::in_decl;
