@@ -1,3 +1,5 @@
 pub mod Expressions
+pub mod Parts
+pub mod Places
 pub mod Statements
 pub mod Trees

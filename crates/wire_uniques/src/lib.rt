@@ -3,6 +3,8 @@
 
 mod declarations;
 mod expressions;
+mod part;
+mod place;
 mod statements;
 
-pub use statements::in_decl;
+pub use part::in_part;
