@@ -84,19 +84,23 @@ in_part part.Header = []
 abbrev pub in_header : Loaded → Texts
 in_header u = in_decls u.unit.decls
 
-abbrev pub in_component : Option Loaded → Texts
-in_component None = []
-in_component (Some u) = in_part u.unit.part
+abbrev pub in_own : Loaded → Texts
+in_own u = in_part u.unit.part
 
-abbrev pub in_instance : List Loaded → Made → Texts
-in_instance units m = in_component (slice_get units m.component)
+-- those of each file
+abbrev pub parts_of : List Loaded → List Texts
+parts_of units = map in_own units
 
--- headers first, in the order of reading, and then the instances
+abbrev pub in_instance : List Texts → Made → Texts
+in_instance parts m = or_none (slice_get parts m.component)
+
+abbrev pub in_instances : List Texts → List Made → Texts
+in_instances parts made = all (map (in_instance parts) made)
+
+-- headers first, in the order of reading
 abbrev pub in_headers : List Loaded → Texts
 in_headers units = all (map in_header units)
 
-abbrev pub in_instances : List Loaded → List Made → Texts
-in_instances units made = all (map (in_instance units) made)
-
+-- and then the instances, in theirs
 abbrev pub uses_of : List Loaded → List Made → Texts
-uses_of units made = in_headers units ++ in_instances units made
+uses_of units made = in_headers units ++ in_instances (parts_of units) made

@@ -1,0 +1,60 @@
+//! The numbers of uses of texts.
+
+ghost use Rattle.std.specs.Prelude.{◌≡◌, ◌+◌, ◌++◌, ◌∷◌, [], OnOk, length, unwrap_or, List as ListOf};
+ghost use Rattle.wire_names.specs.Places.{place_of};
+ghost use Rattle.wire_uniques.specs.Expressions.{Texts};
+ghost use Rattle.wire_uniques.specs.Numbers.{AreNumbers};
+
+use nm_base::{Name, NoMemory};
+use std::alloc::Global;
+use wire_names::Places;
+
+/// The number of uses of each text, and the number that each use got.
+#[derive(Debug, Drop)]
+pub struct Counter {
+    pub counts: Places,
+    pub numbers: Vec<usize>,
+}
+
+impl Counter {
+    /// No text is used.
+    pub fn new(alloc: Global) -> Counter
+        ensures { AreNumbers result.counts result.numbers.items [] }
+    {
+        Counter {
+            counts: Places::new(alloc),
+            numbers: Vec::new(alloc),
+        }
+    }
+
+    /// How often the text is used.
+    pub fn count(&self, text: &Name) -> usize
+        ensures { result ≡ unwrap_or (place_of self.now.counts text.now) 0 }
+    {
+        self.counts.get(text).unwrap_or(0)
+    }
+
+    fn take(&mut self, text: &Name) -> Result<(), NoMemory>
+        ensures numbered { OnOk result ((uses : Texts) → AreNumbers self.old.counts self.old.numbers.items uses → AreNumbers self.new.counts self.new.numbers.items (uses ++ text.now ∷ [])) }
+        ensures grows { OnOk result (length self.new.numbers.items ≡ length self.old.numbers.items + 1) }
+    {
+        let count = self.count(text);
+        let Some(more) = count.checked_add(1) else {
+            return Err(NoMemory);
+        };
+        self.counts.set(text, more)?;
+        self.numbers.push(count)?;
+        Ok(())
+    }
+
+    /// Numbers the uses of these texts behind the earlier ones.
+    pub fn take_all(&mut self, texts: &[Name]) -> Result<(), NoMemory>
+        ensures numbered { OnOk result ((uses : Texts) → AreNumbers self.old.counts self.old.numbers.items uses → AreNumbers self.new.counts self.new.numbers.items (uses ++ texts.now)) }
+        ensures grows { OnOk result (length self.new.numbers.items ≡ length self.old.numbers.items + length texts.now) }
+    {
+        for text in texts {
+            self.take(text)?;
+        }
+        Ok(())
+    }
+}
