@@ -9,3 +9,4 @@ pub mod HexPair
 pub mod HexWord
 pub mod ImageBack
 pub mod Writing
+pub mod ScheduleWords

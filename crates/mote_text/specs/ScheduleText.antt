@@ -4,6 +4,7 @@ use Rattle.std.specs.Cmp.Lexicographic.{pointwise}
 use Rattle.std.specs.List.{flat_map}
 use Rattle.std.specs.Option.{option_map, option_and_then}
 use Rattle.std.specs.Str.Lines.{lines}
+use Rattle.mote_devices.specs.WordBoards.{AreWordRows, IsWordGiven}
 use Rattle.mote_devices.specs.declared.shown.Due.{Due}
 use Rattle.mote_devices.specs.declared.shown.Given.{Given}
 use Rattle.mote_devices.specs.declared.shown.Given.TheVariants.{Arrive, Unplug}
@@ -77,3 +78,7 @@ pub record IsSchedule (rows : List Due) : Type 0 where
 -- what is printed reads back
 abbrev pub ScheduleReadsBack : Type 0
 ScheduleReadsBack = (rows : List Due) → IsSchedule rows → schedule_of (schedule_text rows) ≡ Ok rows
+
+-- what is read are words
+abbrev pub SchedulesAreOfWords : Type 0
+SchedulesAreOfWords = (text : List ℕ) (rows : List Due) → schedule_of text ≡ Ok rows → AreWordRows IsWordGiven rows

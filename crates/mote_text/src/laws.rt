@@ -1,7 +1,7 @@
 //! Printed texts read back.
 
 ghost use Rattle.mote_text.specs.ImageLines.{ImageReadsBack};
-ghost use Rattle.mote_text.specs.ScheduleText.{ScheduleReadsBack};
+ghost use Rattle.mote_text.specs.ScheduleText.{ScheduleReadsBack, SchedulesAreOfWords};
 ghost use Rattle.mote_text.specs.TraceWords.{LineTellsEvent};
 
 /// A printed image reads back to its map.
@@ -14,6 +14,12 @@ pub fn image_reads_back()
 #[tactic(auto, using(crate::proofs::ScheduleBack::reads_back))]
 pub fn schedule_reads_back()
     ensures { ScheduleReadsBack }
+{}
+
+/// The values of the rows that a text names are words.
+#[tactic(auto, using(crate::proofs::ScheduleWords::of_words))]
+pub fn schedules_are_of_words()
+    ensures { SchedulesAreOfWords }
 {}
 
 /// Two events that print alike are one.

@@ -19,7 +19,7 @@ mod trace;
 pub use end_line::print_end;
 pub use event_line::{print_event, read_event};
 pub use image_text::print_image;
-pub use laws::{image_reads_back, line_tells_event, schedule_reads_back};
+pub use laws::{image_reads_back, line_tells_event, schedule_reads_back, schedules_are_of_words};
 pub use msp_isa::{Loaded, load_image};
 pub use reader::read_image;
 pub use rows::worked_rows;
