@@ -18,7 +18,7 @@ use Rattle.nesc_core.specs.Weights.{expr_levels, frame_weight, stmts_atomics, st
 use Rattle.nesc_core.specs.WellFormed.{AreStmts, IsBody, IsWellFormed, by_return}
 use Rattle.core_meaning.specs.BootBody.{WrittenConstant, boot, booted, constant_writes_program, converted_literal, default_booted, default_init, dispatch_init, ecombine, in_prelude, write_statements}
 use Rattle.lower_form.specs.Short.{IsShort, extras_of, stmts_extras}
-use Rattle.lower_pace.specs.Pace.{AllHaveFewCases, HasFewCases, IsMeasured, TakesByte}
+use Rattle.lower_pace.specs.Pace.{AreMeasuredStmts, IsMeasured, IsMeasuredStmt}
 use Rattle.image_code.specs.Laws.{IsCompilable}
 use Rattle.constant_programs.specs.Laws.{AreGoodWrites, ConstantWritesCompile, IsGoodWrite}
 
@@ -97,9 +97,9 @@ pub writes_calls : (ws : List WrittenConstant) → stmts_calls (write_statements
 writes_calls [] = refl
 writes_calls (w ∷ ws) = ap (λ l. l ++ stmts_calls (write_statements ws)) (literal_calls w.is_decimal w.value) ∙ writes_calls ws
 
-writes_cases : (ws : List WrittenConstant) → AllHaveFewCases (write_statements ws)
-writes_cases [] = tt
-writes_cases (w ∷ ws) = (tt, writes_cases ws)
+writes_measured : (p : Program) (types : List Ty) (ws : List WrittenConstant) → AreMeasuredStmts p types (write_statements ws)
+writes_measured p types [] = tt
+writes_measured p types (w ∷ ws) = (tt, writes_measured p types ws)
 
 writes_heres : (ws : List WrittenConstant) → all_heres (write_statements ws) ≡ []
 writes_heres [] = refl
@@ -264,12 +264,7 @@ module _ (app : List ℕ) (ws : List WrittenConstant) (good : AreGoodWrites ws) 
   }
 
   pub measured : IsMeasured p
-  measured = record {
-    cases = all_bodies (λ b. HasFewCases b.code) (tt, tt) (writes_cases ws) (tt, tt) tt ((tt, tt), (tt, tt)) (tt, tt);
-    locals =
-        all_bodies (λ b. All (TakesByte p) b.locals) (All-cons (TakesByte p) (int U8) (int U8 ∷ []) (omega arith) (All-cons (TakesByte p) (int U8) [] (omega arith) (All-nil (TakesByte p)))) (All-nil (TakesByte p)) (All-nil (TakesByte p))
-        (All-nil (TakesByte p)) (All-nil (TakesByte p)) (All-nil (TakesByte p));
-  }
+  measured = record { bodies = all_bodies (λ b. IsMeasuredStmt p b.locals b.code) (tt, tt) (writes_measured p [] ws) (tt, tt) tt ((tt, tt), (tt, tt)) (tt, tt) }
 
 pub constant_writes_compile : ConstantWritesCompile
 constant_writes_compile app ws good = record {

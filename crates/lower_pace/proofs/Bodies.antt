@@ -19,7 +19,7 @@ use Rattle.lower_stmt.specs.Code.{WayOut, breaking, continuing, returning, leads
 use Rattle.lower_stmt.specs.Bodies.{all_bytes, base_of, body_code, bytes_in_frame, spots_from, spots_of, values_of, ways_of}
 use Rattle.lower_stmt.proofs.Leaving.{leads_allowed}
 use Rattle.lower_stmt.proofs.Weighed.{is_within}
-use Rattle.lower_pace.specs.Pace.{HasFewCases, TakesByte}
+use Rattle.lower_pace.specs.Pace.{IsMeasuredStmt}
 use Rattle.lower_pace.proofs.Flow.{Flow, Setting, nothing, plains, returns}
 use Rattle.lower_pace.proofs.Exprs.{costs}
 use Rattle.lower_pace.proofs.Ways.{Sized, WayLeads, nothing_plain, sizes_from}
@@ -35,11 +35,6 @@ frame_small p (pointer t ∷ ts) v o zero at lt e = absurd (cc)
 frame_small p (array t n ∷ ts) v o zero at lt e = let same : o ≡ at = cc in omega (arith, same)
 frame_small p (struct k ∷ ts) v o zero at lt e = let same : o ≡ at = cc in omega (arith, same)
 frame_small p (t ∷ ts) v o (suc x) at lt e = let h = frame_small p ts (v + values_of t) (o + bytes_in_frame p t) x at (omega (arith, lt)) e in omega (arith, h)
-
-some_bytes : (p : Program) (ts : List Ty) (x : ℕ) → All (TakesByte p) ts → x < length ts → 1 ≤ size_of p (slice_index_or ts x void)
-some_bytes p [] x h lt = absurd (omega (arith, lt))
-some_bytes p (t ∷ ts) zero h lt = All-head (TakesByte p) t ts h
-some_bytes p (t ∷ ts) (suc x) h lt = some_bytes p ts x (All-tail (TakesByte p) t ts h) (omega (arith, lt))
 
 shifted : (p : Program) (t : Ty) (ts : List Ty) (count x : ℕ) → sizes_from p (t ∷ ts) count (suc x) ≡ sizes_from p ts count x
 shifted p t ts zero x = refl
@@ -105,9 +100,9 @@ all_at P [] f b h e = absurd (cc)
 all_at P (a ∷ bs) zero b h e = let same : a ≡ b = cc in subst P same (All-head P a bs h)
 all_at P (a ∷ bs) (suc f) b h e = all_at P bs f b (All-tail P a bs h) e
 
-pub body_flows : (given : Setting) (p : Program) (checks : List Ty) (b : Body) (bytes big : ℕ) → (fn_of given.code given.f).code ≡ body_code p checks b → IsBody p b → HasFewCases b.code → All (TakesByte p) b.locals →
+pub body_flows : (given : Setting) (p : Program) (checks : List Ty) (b : Body) (bytes big : ℕ) → (fn_of given.code given.f).code ≡ body_code p checks b → IsBody p b → IsMeasuredStmt p b.locals b.code →
     local_bytes_in p b ≤ bytes → given.help + 1200 + 48 * bytes ≤ big → Flow given (50 + costs big (stmt_nodes_of b.code)) (fn_of given.code given.f).code
-body_flows given p checks b bytes big is well few some within enough =
+body_flows given p checks b bytes big is well few within enough =
     let base = base_of b in
     let cn : List Mid = nothing_code b.result (base + 2) in
     let tail : List Mid = cn ++ Ret (taken_at b.result (base + 2)) ∷ [] in
@@ -116,7 +111,6 @@ body_flows given p checks b bytes big is well few some within enough =
     let weighs = is_within p checks b in
     let sized : Sized p b.locals (spots_of p b) bytes = record {
       frames = λ x o lt e. let small = frame_small p b.locals 0 0 x o lt e in let le = weighs.within in let most = well.frame in omega (arith, small, le, most);
-      some = λ x lt. some_bytes p b.locals x some lt;
       room = λ count x inside. let le = room_for p b.locals count x inside in omega (arith, le, within);
     } in
     subst (Flow given (50 + costs big (stmt_nodes_of b.code))) (sym is)

@@ -21,7 +21,7 @@ use Rattle.lower_expr.specs.Pieces.{zero_code}
 use Rattle.lower_expr.specs.Code.{all_labels, expr_code, is_void, kind_of_spot, labels, local_code, put_code}
 use Rattle.lower_stmt.specs.Code.{Ways, WayOut, breaking, continuing, returning, back, cases_code, clear_code, clears_code, enter_code, exit_code, here_gives, in_atomic, in_here, in_loop, in_switch, kept_code, leads, maybe_labels, nothing_code, result_code, returned_code, some_leads, step_code, stmt_code, stmt_labels, stmts_code, switch_code, way_out, zero_local_code}
 use Rattle.lower_stmt.proofs.Leaving.{or_first, or_second}
-use Rattle.lower_pace.specs.Pace.{AllHaveFewCases, HasFewCases}
+use Rattle.lower_pace.specs.Pace.{AreMeasuredStmts, IsMeasuredStmt, TakeBytes}
 use Rattle.lower_pace.proofs.Flow.{Flow, Leads, Setting, flow_more, if_flows, jump, label, leads_here, leads_more, leads_over, leads_past, plains, regroup}
 use Rattle.lower_pace.proofs.Pieces.{local_plain, put_plain, zero_flows}
 use Rattle.lower_pace.proofs.Clears.{zeroes}
@@ -83,13 +83,13 @@ module _ (given : Setting) (p : Program) (types checks : List Ty) (spots : List 
       by (Some (Values regs)) e = plains given n m 2 _ u (regs_plain (is_wide (number_of (slice_index_or types x plain.void))) regs) h (omega (arith, le))
       by (Some (Frame o)) e = zeroes given n m (size_of p (slice_index_or types x plain.void)) o base l u h (sized.frames x o lt e) le
 
-  clears_flows : (count x l n m : ℕ) (u : List Mid) → x + count ≤ length types → F n u → n + 48 * sizes_from p types count x ≤ m → F m (clears_code p types checks spots base count x l ++ u)
-  clears_flows zero x l n m u inside h le = flow_more given n m u (omega (arith, le)) h
-  clears_flows (suc count) x l n m u inside h le =
-      let some = sized.some x (omega (arith, inside)) in
+  clears_flows : (count x l n m : ℕ) (u : List Mid) → x + count ≤ length types → TakeBytes p types count x → F n u → n + 48 * sizes_from p types count x ≤ m → F m (clears_code p types checks spots base count x l ++ u)
+  clears_flows zero x l n m u inside bytes_some h le = flow_more given n m u (omega (arith, le)) h
+  clears_flows (suc count) x l n m u inside bytes_some h le =
+      let some = bytes_some x (omega arith) (omega arith) in
       let nr : ℕ = n + 48 * sizes_from p types count (x + 1) in
       regroup given m (clear_code p types checks spots base x l) (clears_code p types checks spots base count (x + 1) (l + 2)) u
-      (clear_flows x l nr m _ (omega (arith, inside)) (clears_flows count (x + 1) (l + 2) n nr u (omega (arith, inside)) h (omega arith)) (omega (arith, le, some)))
+      (clear_flows x l nr m _ (omega (arith, inside)) (clears_flows count (x + 1) (l + 2) n nr u (omega (arith, inside)) (λ k low high. bytes_some k (omega (arith, low)) (omega (arith, high))) h (omega arith)) (omega (arith, le, some)))
 
   -- ---- calls inlined
 
@@ -177,7 +177,7 @@ module _ (given : Setting) (p : Program) (types checks : List Ty) (spots : List 
   -- ---- statements
 
   mutual
-    pub stmt_flows : (s : Stmt) (exits : Exits) (w : Ways) (l n m : ℕ) (u : List Mid) → IsStmt p types s exits → HasFewCases s → WaysLead given n (leads s) w u → F n u → Stand given (S s w l ++ u) → 10 ≤ n →
+    pub stmt_flows : (s : Stmt) (exits : Exits) (w : Ways) (l n m : ℕ) (u : List Mid) → IsStmt p types s exits → IsMeasuredStmt p types s → WaysLead given n (leads s) w u → F n u → Stand given (S s w l ++ u) → 10 ≤ n →
         n + of_stmt s ≤ m + 300 → F m (S s w l ++ u)
     stmt_flows (plain.eval e) exits w l n m u typed few ways h stand some le = let c = cost1 big (expr_nodes_of e) in expression e base l n m u h (omega (arith, c, le, enough))
     stmt_flows (plain.block list) exits w l n m u typed few ways h stand some le =
@@ -350,16 +350,16 @@ module _ (given : Setting) (p : Program) (types checks : List Ty) (spots : List 
         let leaves : Leads given (n + 76) l (cn ++ u1) = leads_over given _ _ cn _ (leads_more given (n + 58) (n + 76) l u1 (omega arith) (leads_here given (n + 58) l _ out)) in
         let nb : ℕ = n + 76 + of_stmt body in
         let bodies : F nb (cb ++ (cn ++ u1)) =
-        stmt_flows body (by_result p types first count) inner (l + 1 + la + 2 * count) (n + 76) nb _ typed.1 few (here_ways (n + 76) (leads body) w l (here_gives p types checks spots base gives (first + count)) _ leaves) nothing stand1
+        stmt_flows body (by_result p types first count) inner (l + 1 + la + 2 * count) (n + 76) nb _ typed.1 few.1 (here_ways (n + 76) (leads body) w l (here_gives p types checks spots base gives (first + count)) _ leaves) nothing stand1
         (omega (arith, some)) (omega arith) in
         let begins : F (nb + 9) u2 = plains given nb (nb + 9) 1 (Tick ∷ []) _ (record { all = refl; short = omega arith }) bodies (omega arith) in
         let within : first + args + (count - args) ≤ length types = (let a = enters.inside in let b = enters.room in omega (arith, a, b)) in
         let room = sized.room (count - args) (first + args) within in
         let nw : ℕ = nb + 9 + 48 * sizes_from p types (count - args) (first + args) in
-        let clears : F nw (cw ++ u2) = clears_flows (count - args) (first + args) (l + 1 + la) (nb + 9) nw u2 within begins (omega arith) in
+        let clears : F nw (cw ++ u2) = clears_flows (count - args) (first + args) (l + 1 + la) (nb + 9) nw u2 within few.0 begins (omega arith) in
         subst (F m) (sym eq) (enter_flows arguments first (l + 1) nw m _ clears (omega (arith, some)) (omega (arith, c, le, enough, room)))
 
-    stmts_flows : (list : Stmts) (exits : Exits) (w : Ways) (l n m : ℕ) (u : List Mid) → AreStmts p types list exits → AllHaveFewCases list → WaysLead given n (some_leads list) w u → F n u →
+    stmts_flows : (list : Stmts) (exits : Exits) (w : Ways) (l n m : ℕ) (u : List Mid) → AreStmts p types list exits → AreMeasuredStmts p types list → WaysLead given n (some_leads list) w u → F n u →
         Stand given (stmts_code p types checks spots base list w l ++ u) → 10 ≤ n → n + of_stmts list ≤ m → F m (stmts_code p types checks spots base list w l ++ u)
     stmts_flows no_stmts exits w l n m u typed few ways h stand some le = flow_more given n m u (omega (arith, le)) h
     stmts_flows (more_stmts s rest) exits w l n m u typed few ways h stand some le =
@@ -376,7 +376,7 @@ module _ (given : Setting) (p : Program) (types checks : List Ty) (spots : List 
         (stmt_flows s exits w l nr m (b ++ u) typed.0 few.0 (ways_further given n nr (some_leads (more_stmts s rest)) (leads s) w b u (omega arith) (λ o e. or_first (leads s o) (some_leads rest o) e) ways) others stand0
         (omega (arith, some)) (omega (arith, c, le)))
 
-    switch_flows : (list : Stmts) (exits : Exits) (w : Ways) (k l n m : ℕ) (u : List Mid) → AreStmts p types list exits → AllHaveFewCases list → WaysLead given n (some_leads list) w u → F n u →
+    switch_flows : (list : Stmts) (exits : Exits) (w : Ways) (k l n m : ℕ) (u : List Mid) → AreStmts p types list exits → AreMeasuredStmts p types list → WaysLead given n (some_leads list) w u → F n u →
         Stand given (switch_code p types checks spots base list w k l ++ u) → 10 ≤ n → n + of_stmts list ≤ m + 200 * count_stmts list → Choices m k list (switch_code p types checks spots base list w k l ++ u)
     switch_flows no_stmts exits w k l n m u typed few ways h stand some le = record { flows = flow_more given n m u (omega (arith, le)) h; starts = λ j lt. absurd (omega (arith, lt)) }
     switch_flows (more_stmts s rest) exits w k l n m u typed few ways h stand some le =

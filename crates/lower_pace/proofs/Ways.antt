@@ -172,5 +172,4 @@ sizes_from p types (suc count) x = size_of p (slice_index_or types x plain.void)
 
 pub record Sized (p : Program) (types : List Ty) (spots : List Spot) (bytes : ℕ) : Type 0 where
   pub frames : (x o : ℕ) → x < length types → slice_get spots x ≡ Some (Frame o) → o + size_of p (slice_index_or types x plain.void) < 65536
-  pub some : (x : ℕ) → x < length types → 1 ≤ size_of p (slice_index_or types x plain.void)
   pub room : (count x : ℕ) → x + count ≤ length types → sizes_from p types count x ≤ bytes

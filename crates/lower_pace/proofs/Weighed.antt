@@ -1,7 +1,6 @@
 -- Silent steps of lowered code are a weight of it, and with what is around them they keep to half of the program's pace.
 use Rattle.std.proofs.Common.{◌≡◌, ℕ, ◌+◌, ◌*◌, ◌/◌, ◌≤◌, true, List, Option, Some, None, refl, sym, ap, subst, arith}
 use Rattle.std.specs.Prelude.{slice_get}
-use Rattle.std.specs.List.{All}
 use Rattle.std.proofs.lemmas.Nat.{mul-le}
 use Rattle.std.proofs.Math.Nat.{add-mul, mul_assoc, mul_left_comm}
 use Rattle.nm_base.specs.declared.action.Action.{Action}
@@ -27,7 +26,7 @@ use Rattle.msp_select.specs.Weight.{IsWeighed, entry_size}
 use Rattle.msp_select.specs.Weight as weight
 use Rattle.msp_select.proofs.Bounds.{frames_are_small}
 use Rattle.msp_select.proofs.Weighing.{paced}
-use Rattle.lower_pace.specs.Pace.{HasFewCases, IsMeasured, LoweredCodeIsPaced, LoweredCodeIsWeighed, SelectedCodeKeepsPace, TakesByte, between_actions, heaviest_of, help_bound, longest_of, own_of, room}
+use Rattle.lower_pace.specs.Pace.{IsMeasured, IsMeasuredStmt, LoweredCodeIsPaced, LoweredCodeIsWeighed, SelectedCodeKeepsPace, between_actions, heaviest_of, help_bound, longest_of, own_of, room}
 use Rattle.lower_pace.specs.Silent.{silent_size}
 use Rattle.lower_pace.proofs.Silent.{falls, holds}
 use Rattle.lower_pace.proofs.Flow.{Flow, HasSizes, flow_more, is_call, is_help, is_light, is_small, nothing}
@@ -127,11 +126,10 @@ module _ (p : Program) (well : IsWellFormed p) (measured : IsMeasured p) where
         by : (o : Option Body) → slice_get p.bodies f ≡ o → Flow (given (lowered p) size help sizes labels f) most (fn_of (lowered p) f).code
         by None is = subst (λ fn. Flow (given (lowered p) size help sizes labels f) most fn.code) (sym (of_none f is)) (nothing (given (lowered p) size help sizes labels f) most (omega arith))
         by (Some b) is =
-            let few : HasFewCases b.code = all_at (λ b. HasFewCases b.code) p.bodies f b measured.cases is in
-            let some : All (TakesByte p) b.locals = all_at (λ b. All (TakesByte p) b.locals) p.bodies f b measured.locals is in
+            let few : IsMeasuredStmt p b.locals b.code = all_at (λ b. IsMeasuredStmt p b.locals b.code) p.bodies f b measured.bodies is in
             let le = costs_within big (stmt_nodes_of b.code) (nodes_of p) (14000 + 140 * ranges_of p + 60 * local_bytes p) (nodes_within p f b is) less in
             flow_more (given (lowered p) size help sizes labels f) (50 + costs big (stmt_nodes_of b.code)) most _ (omega (arith, le))
-            (body_flows (given (lowered p) size help sizes labels f) p (checks_of p) b (local_bytes p) big (ap (λ (fn : MidFn). fn.code) (of_body f b is)) (all_at (IsBody p) p.bodies f b well.bodies is) few some
+            (body_flows (given (lowered p) size help sizes labels f) p (checks_of p) b (local_bytes p) big (ap (λ (fn : MidFn). fn.code) (of_body f b is)) (all_at (IsBody p) p.bodies f b well.bodies is) few
             (bytes_within p f b is) (omega arith))
 
     fine : (root : ℕ) (answers : ℕ → ℕ) (k : ℕ) → Fine (lowered p) size help sizes labels most (heaviest_of p) flows (λ i ok. let le = call i ok in omega (arith, le)) (omega arith) (state_at (lowered p) root answers k)

@@ -1,12 +1,12 @@
 -- That selected code of a lowered program keeps to half of the program's pace (own).
-use Rattle.std.specs.Prelude.{⊤, ℕ, ◌+◌, ◌*◌, ◌/◌, ◌≤◌, List, length}
+use Rattle.std.specs.Prelude.{⊤, ℕ, ◌+◌, ◌-◌, ◌*◌, ◌/◌, ◌<◌, ◌≤◌, List, length, slice_index_or}
 use Rattle.std.specs.List.{All}
 use Rattle.nm_base.specs.declared.action.Action.{Action}
-use Rattle.nesc_core.specs.Plain.{Ty, Stmt, eval, block, branch, loop, switch, break, continue, return, atomic, clear, here, Stmts, no_stmts, more_stmts, Program}
+use Rattle.nesc_core.specs.Plain.{Ty, void, Stmt, eval, block, branch, loop, switch, break, continue, return, atomic, clear, here, Stmts, no_stmts, more_stmts, Program}
 use Rattle.nesc_core.specs.Nodes.{nodes_of}
 use Rattle.nesc_core.specs.Derefs.{ranges_of}
 use Rattle.nesc_core.specs.Weights.{local_bytes, pace_of_program}
-use Rattle.nesc_core.specs.WellFormed.{IsWellFormed, count_stmts}
+use Rattle.nesc_core.specs.WellFormed.{IsWellFormed, count_exprs, count_stmts}
 use Rattle.core_meaning.specs.Layout.{size_of}
 use Rattle.mid_code.specs.Machine.{Activation, fn_of}
 use Rattle.lower_stmt.specs.Bodies.{lowered}
@@ -19,32 +19,33 @@ use Rattle.lower_pace.specs.Silent.{silent_size}
 
 -- ---- programs
 
--- a switch has no more cases than statements
-abbrev mutual
-  pub HasFewCases : Stmt → Type 0
-  HasFewCases (eval e) = ⊤
-  HasFewCases (block list) = AllHaveFewCases list
-  HasFewCases (branch test a b) = HasFewCases a × HasFewCases b
-  HasFewCases (loop first test step body) = HasFewCases body
-  HasFewCases (switch e cases list) = (length cases ≤ count_stmts list) × AllHaveFewCases list
-  HasFewCases break = ⊤
-  HasFewCases continue = ⊤
-  HasFewCases (return e) = ⊤
-  HasFewCases (atomic s) = HasFewCases s
-  HasFewCases (clear x) = ⊤
-  HasFewCases (here arguments first count body) = HasFewCases body
+-- n locals from x on take a byte at least, where locals have these types
+abbrev pub TakeBytes : Program → List Ty → (n x : ℕ) → Type 0
+TakeBytes p types n x = (k : ℕ) → x ≤ k → k < x + n → 1 ≤ size_of p (slice_index_or types k void)
 
-  pub AllHaveFewCases : Stmts → Type 0
-  AllHaveFewCases no_stmts = ⊤
-  AllHaveFewCases (more_stmts s rest) = HasFewCases s × AllHaveFewCases rest
+-- a switch has no more cases than statements, and the locals that an inlined call clears take a byte at least
+module _ (p : Program) (types : List Ty) where
+  abbrev mutual
+    pub IsMeasuredStmt : Stmt → Type 0
+    IsMeasuredStmt (eval e) = ⊤
+    IsMeasuredStmt (block list) = AreMeasuredStmts list
+    IsMeasuredStmt (branch test a b) = IsMeasuredStmt a × IsMeasuredStmt b
+    IsMeasuredStmt (loop first test step body) = IsMeasuredStmt body
+    IsMeasuredStmt (switch e cases list) = (length cases ≤ count_stmts list) × AreMeasuredStmts list
+    IsMeasuredStmt break = ⊤
+    IsMeasuredStmt continue = ⊤
+    IsMeasuredStmt (return e) = ⊤
+    IsMeasuredStmt (atomic s) = IsMeasuredStmt s
+    IsMeasuredStmt (clear x) = ⊤
+    IsMeasuredStmt (here arguments first count body) = TakeBytes p types (count - count_exprs arguments) (first + count_exprs arguments) × IsMeasuredStmt body
 
-abbrev pub TakesByte : Program → Ty → Type 0
-TakesByte p t = 1 ≤ size_of p t
+    pub AreMeasuredStmts : Stmts → Type 0
+    AreMeasuredStmts no_stmts = ⊤
+    AreMeasuredStmts (more_stmts s rest) = IsMeasuredStmt s × AreMeasuredStmts rest
 
--- what nodes and bytes measure: each case begins at a statement of its own, and each local takes a byte at least
+-- Nodes and bytes measure its code: each case begins at a statement of its own, and what is cleared without a node of its own takes a byte
 pub record IsMeasured (p : Program) : Type 0 where
-  pub cases : All (λ b. HasFewCases b.code) p.bodies
-  pub locals : All (λ b. All (TakesByte p) b.locals) p.bodies
+  pub bodies : All (λ b. IsMeasuredStmt p b.locals b.code) p.bodies
 
 -- ---- numbers
 
