@@ -24,6 +24,8 @@ module _ (back : ImageReadsBack) (told : Option Told) (files : Told) (h : told â
         ram = printed.ram;
         stack = printed.stack;
         rows = run.rows;
+        schedule = run.schedule files h;
+        words = run.words;
         printed = printed.printed;
         reads_back = back printed.code printed.vectors printed.meets.image;
         allowed = printed.meets.allowed;

@@ -1,7 +1,7 @@
 pub mod Causes
+pub mod Compiled
 pub mod Headline
 pub mod Numerals
-pub mod Ports
 pub mod Reading
 pub mod Statements
 pub mod WordLists

@@ -7,8 +7,6 @@ use Rattle.std.specs.Cmp.Lexicographic.{pointwise}
 use Rattle.std.specs.Char.{digit_value}
 use Rattle.std.specs.Str.Parse.{digits_value}
 use Rattle.core_meaning.specs.BootBody.{WrittenConstant}
-use Rattle.core_meaning.specs.ConstantWrites.{IsWrite}
-use Rattle.core_meaning.specs.declared.PortWrite.{PortWrite}
 use Rattle.nm_driver.specs.declared.form.Constant.{Constant}
 use Rattle.nm_driver.specs.Tokens.{is_letter, is_word_byte}
 
@@ -95,10 +93,3 @@ pub record HasForm (app : List ℕ) (tokens : List (List ℕ)) (writes : List Co
 -- the same as the wired program has them
 abbrev pub constant_of : Constant → WrittenConstant
 constant_of c = record { port = c.port; value = c.value; is_decimal = c.is_decimal }
-
--- the same as the image has them
-abbrev pub port_write_of : Constant → PortWrite
-port_write_of c = record { port = c.port; value = c.value }
-
-abbrev pub IsConstant : Constant → Type 0
-IsConstant c = IsWrite (port_write_of c)

@@ -4,6 +4,7 @@ use Rattle.nm_base.specs.declared.memory_map.TheConstants.{RAM_BYTES, RAM_END}
 use Rattle.nm_base.specs.Outside.{FilesSeen, SinkSeen}
 use Rattle.nesc_preproc.specs.Expands.{Told}
 use Rattle.mote_devices.specs.declared.state.BoardState.{BoardState}
+use Rattle.mote_devices.specs.WordBoards.{AreWordRows, IsWordBoard, IsWordGiven}
 use Rattle.mote_devices.specs.declared.shown.Due.{Due}
 use Rattle.nesc_core.specs.Plain.{Program}
 use Rattle.nesc_core.specs.Weights.{pace_of_program}
@@ -16,11 +17,11 @@ use Rattle.mote_text.specs.ImageText.{image_text}
 use Rattle.nm_words.specs.declared.mode.Mode.TheVariants.{Run}
 use Rattle.nm_driver.specs.declared.status.Status.TheVariants.{Done}
 use Rattle.nm_words.specs.Asked.{AreWords, Requested, request}
-use Rattle.nm_driver.specs.NamedFiles.{HasProgram}
+use Rattle.nm_driver.specs.NamedFiles.{HasProgram, HasSchedule}
 use Rattle.nm_driver.specs.RunText.{run_text}
 use Rattle.nm_driver.specs.Output.{IsAnswer}
 
--- the text has an image of the application's wired program, with its data and stack, and the image's run on a board
+-- the text has an image of the application's wired program, with its data and stack, and the image's run on a board with the schedule's rows
 pub record RunsItsSource (files : Told) (asked : Requested) (board : BoardState) (text : List ℕ) : Type 0 where
   pub program : Program
   pub has : HasProgram files asked.subject program
@@ -29,13 +30,17 @@ pub record RunsItsSource (files : Told) (asked : Requested) (board : BoardState)
   pub ram : ℕ
   pub stack : ℕ
   pub rows : List Due
+  pub schedule : HasSchedule files asked.schedule rows
+  pub words : AreWordRows IsWordGiven rows
   pub printed : text ≡ run_text code vectors ram stack board rows asked.budget
   -- whoever reads the image's lines runs this image
   pub reads_back : image_of (image_text code vectors) ≡ Ok (image_map code vectors)
-  -- on every board, with every schedule, after every number of slots it has done what some run of the program does, at its pace ..
-  pub allowed : (b : BoardState) (rows : List Due) (n : ℕ) → Allowed (source_of program) (pace_of_program program) b (mote (image_map code vectors) b rows) n
+  -- on every board of words, with every schedule of words, after every number of slots it has done what some run of the program does, at
+  -- its pace ..
+  pub allowed : (b : BoardState) (rows : List Due) (n : ℕ) → IsWordBoard b → AreWordRows IsWordGiven rows →
+      Allowed (source_of program) (pace_of_program program) b (mote (image_map code vectors) b rows) n
   -- .. within its stack
-  pub bounded : (b : BoardState) (rows : List Due) (n : ℕ) → RAM_END ≤ (mote (image_map code vectors) b rows n).least + stack
+  pub bounded : (b : BoardState) (rows : List Due) (n : ℕ) → IsWordBoard b → AreWordRows IsWordGiven rows → RAM_END ≤ (mote (image_map code vectors) b rows n).least + stack
   pub fits : ram + stack ≤ RAM_BYTES
 
 -- Where the top call is done with an application, and files and sink tell what they have, the sink has taken such a text

@@ -2,6 +2,7 @@
 use Rattle.std.specs.Prelude.{◌≡◌, ◌≤◌, ℕ, ◌+◌, List}
 use Rattle.nm_base.specs.declared.memory_map.TheConstants.{RAM_BYTES, RAM_END}
 use Rattle.mote_devices.specs.declared.state.BoardState.{BoardState}
+use Rattle.mote_devices.specs.WordBoards.{AreWordRows, IsWordBoard, IsWordGiven}
 use Rattle.mote_devices.specs.declared.shown.Due.{Due}
 use Rattle.nesc_core.specs.Plain.{Program}
 use Rattle.nesc_core.specs.Weights.{pace_of_program}
@@ -12,10 +13,11 @@ use Rattle.preempt_core.specs.Allowed.{Allowed}
 
 -- the code and vectors of an image, its bytes of data, and its stack
 pub record MeetsProgram (program : Program) (code vectors : List ℕ) (ram stack : ℕ) : Type 0 where
-  -- what a mote with the image does on every board, whatever comes in whichever slot, is what the program allows ..
-  pub allowed : (b : BoardState) (rows : List Due) (n : ℕ) → Allowed (source_of program) (pace_of_program program) b (mote (image_map code vectors) b rows) n
+  -- what a mote with the image does on every board of words, whatever words come in whichever slot, is what the program allows ..
+  pub allowed : (b : BoardState) (rows : List Due) (n : ℕ) → IsWordBoard b → AreWordRows IsWordGiven rows →
+      Allowed (source_of program) (pace_of_program program) b (mote (image_map code vectors) b rows) n
   -- .. within its stack
-  pub bounded : (b : BoardState) (rows : List Due) (n : ℕ) → RAM_END ≤ (mote (image_map code vectors) b rows n).least + stack
+  pub bounded : (b : BoardState) (rows : List Due) (n : ℕ) → IsWordBoard b → AreWordRows IsWordGiven rows → RAM_END ≤ (mote (image_map code vectors) b rows n).least + stack
   pub image : IsImage code vectors
   -- these programs have no data
   pub no_data : ram ≡ 0

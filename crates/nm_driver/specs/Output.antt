@@ -7,6 +7,7 @@ use Rattle.nm_base.specs.Words.{refusal_pos}
 use Rattle.nesc_preproc.specs.Sources.{Known}
 use Rattle.nesc_preproc.specs.Expands.{Told}
 use Rattle.mote_devices.specs.declared.state.BoardState.{BoardState}
+use Rattle.mote_devices.specs.WordBoards.{AreWordRows, IsWordGiven}
 use Rattle.mote_devices.specs.declared.shown.Due.{Due}
 use Rattle.nesc_core.specs.Plain.{Program}
 use Rattle.mote_run.specs.RunText.{mote_text}
@@ -85,9 +86,10 @@ Prints told Run app board rows budget text =
 Prints told Mote name board rows budget text =
     (image : ℕ → ℕ) × (text ≡ mote_text image board rows budget) × ((files : Told) → told ≡ Some files → HasImage files name image)
 
--- what a request asks for, on the board that was handed in
+-- what a request asks for, on the board that was handed in, with rows of words
 pub record IsRun (told : Option Told) (r : Requested) (board : BoardState) (text : List ℕ) : Type 0 where
   pub rows : List Due
+  pub words : AreWordRows IsWordGiven rows
   pub prints : Prints told r.mode r.subject board rows r.budget text
   pub schedule : (files : Told) → told ≡ Some files → HasSchedule files r.schedule rows
 

@@ -8,7 +8,8 @@ use Rattle.nesc_preproc.specs.Sources.{Known, nothing_known}
 use Rattle.nesc_preproc.specs.Expands.{Told}
 use Rattle.mote_devices.specs.declared.state.BoardState.{BoardState}
 use Rattle.mote_devices.specs.declared.shown.Due.{Due}
-use Rattle.nesc_core.specs.View.{program_of}
+use Rattle.nesc_core.specs.Plain.{Program}
+use Rattle.constant_programs.specs.Laws.{AreGoodWrites}
 use Rattle.msp_isa.specs.Image.{bytes_map}
 use Rattle.mote_text.specs.ImageText.{image_text}
 use Rattle.mote_run.specs.RunText.{mote_text}
@@ -16,7 +17,6 @@ use Rattle.nm_driver.specs.declared.answer.Answer.{Answer}
 use Rattle.nm_driver.specs.declared.answer.Stop.{Stop}
 use Rattle.nm_driver.specs.declared.answer.Stop.TheVariants as stop
 use Rattle.nm_driver.specs.declared.form.Constant.{Constant}
-use Rattle.nm_driver.specs.declared.source.Application.{Application}
 use Rattle.nm_driver.specs.declared.subject.Head.{Head}
 use Rattle.nm_driver.specs.declared.subject.Subject.{Subject}
 use Rattle.nm_driver.specs.declared.prepared.Prepared.{Prepared}
@@ -27,7 +27,7 @@ use Rattle.nm_words.specs.declared.mode.Mode.TheVariants.{Run, Mote}
 use Rattle.nm_driver.specs.declared.status.Status.{Status}
 use Rattle.nm_driver.specs.declared.status.Status.TheVariants.{Done, Missing, ReadFault, WriteFault, BadSchedule, Limit, NoMemory, BadImage}
 use Rattle.nm_driver.specs.Lines.{answer_line}
-use Rattle.nm_driver.specs.Form.{IsConstant, port_write_of}
+use Rattle.nm_driver.specs.Form.{constant_of}
 use Rattle.nm_driver.specs.NamedFiles.{ImageStops, IsStopped, source_file, status_of, wired}
 use Rattle.nm_driver.specs.Output.{IfMissing, Prints, file_of}
 
@@ -86,14 +86,12 @@ abbrev pub IsNoMemory : Fault → Type 0
 IsNoMemory fault.NoMemory = Unit {0}
 IsNoMemory _ = ⊥
 
--- an application whose program makes the writes of which its image is made
-pub record IsApplication (a : Application) : Type 0 where
+-- the wired program of an application: some writes of words to ports, few enough
+pub record IsApplication (program : Program) : Type 0 where
   pub app : List ℕ
-  pub constants : List Constant
-  pub few : length constants ≤ 200
-  pub good : AllByRecursion IsConstant constants
-  pub program : program_of a.program ≡ wired app constants
-  pub writes : a.writes.items ≡ map port_write_of constants
+  pub writes : List Constant
+  pub good : AreGoodWrites (map constant_of writes)
+  pub is : program ≡ wired app writes
 
 -- an answer about the files of an application
 pub record SaysOfSource (told : Option Told) (app : List ℕ) (answer : Answer) : Type 0 where

@@ -2,6 +2,7 @@
 
 ghost use Rattle.std.specs.Prelude.{◌≡◌, [], Some, IfOk, IfErr};
 ghost use Rattle.std.specs.Option.{option_map};
+ghost use Rattle.mote_devices.specs.WordBoards.{AreWordRows, IsWordGiven};
 ghost use Rattle.mote_run.specs.Rows.{DoNotFall};
 ghost use Rattle.nesc_preproc.specs.Expands.{Told};
 ghost use Rattle.msp_isa.specs.Image.{bytes_map};
@@ -12,7 +13,7 @@ ghost use Rattle.nm_driver.specs.Prepared.{IfSays, IsTextFault, Reads, SaysOf, l
 use crate::answer::{Stop, says};
 use crate::status::Status;
 use mote_devices::Due;
-use mote_text::{Loaded, TextFault, read_image, read_schedule};
+use mote_text::{Loaded, TextFault, read_image, read_schedule, schedules_are_of_words};
 use nm_base::{Files, Found, Limit, MAX_FILE, Name, Which};
 use std::alloc::Global;
 
@@ -56,9 +57,11 @@ fn text_fault(fault: TextFault) -> Stop
 fn read_rows<F: Files>(alloc: Global, files: &mut F, name: &str) -> Result<Vec<Due>, Stop>
     ensures outside { Reads result (F.seen files.old) (F.seen files.new) }
     ensures order { IfOk result (λ rows. DoNotFall rows.items) }
+    ensures words { IfOk result (λ rows. AreWordRows IsWordGiven rows.items) }
     ensures rows { IfOk result (λ rows. (told : Told) → (F.seen files.old).texts ≡ Some told → HasRows told name.now rows.items) }
     ensures says { IfErr result (λ s. IfSays s (SaysOf (F.seen files.old).texts (λ told. RowsStop told name.now))) }
 {
+    schedules_are_of_words();
     let text = read_file(alloc, files, name)?;
     match read_schedule(alloc, &text) {
         Ok(rows) => Ok(rows),
@@ -74,6 +77,7 @@ pub(crate) fn rows_of<F: Files>(
 ) -> Result<Vec<Due>, Stop>
     ensures outside { Reads result (F.seen files.old) (F.seen files.new) }
     ensures order { IfOk result (λ rows. DoNotFall rows.items) }
+    ensures words { IfOk result (λ rows. AreWordRows IsWordGiven rows.items) }
     ensures rows { IfOk result (λ rows. (told : Told) → (F.seen files.old).texts ≡ Some told → HasSchedule told (option_map (λ s. s.now) schedule.entry) rows.items) }
     ensures says { IfErr result (λ s. IfSays s (SaysOf (F.seen files.old).texts (λ told. ScheduleStops told (option_map (λ s. s.now) schedule.entry)))) }
 {

@@ -1,9 +1,9 @@
 //! What an application's file gives.
 
-ghost use Rattle.std.specs.Prelude.{◌≡◌, ℕ, List, [], Some, IfOk, IfErr, map, unwrap_or};
+ghost use Rattle.std.specs.Prelude.{◌≡◌, ℕ, List, [], Some, IfOk, IfErr, unwrap_or};
 ghost use Rattle.nesc_preproc.specs.Expands.{Told};
 ghost use Rattle.nesc_core.specs.View.{program_of};
-ghost use Rattle.nm_driver.specs.Form.{HasForm, port_write_of};
+ghost use Rattle.nm_driver.specs.Form.{HasForm};
 ghost use Rattle.nm_driver.specs.Lines.{answer_line};
 ghost use Rattle.nm_driver.specs.NamedFiles.{HasProgram, IsSource, later, status_of};
 ghost use Rattle.nm_driver.specs.Prepared.{IfSays, IsApplication, IsNoMemory, Reads, SaysOfSource, fault_file, known_in, line_of};
@@ -13,32 +13,10 @@ use crate::form::{Constant, writes_of};
 use crate::status::Status;
 use crate::tokens::spellings;
 use crate::wired::wired_program;
-use core_meaning::PortWrite;
 use nesc_core::Program;
 use nesc_preproc::{Reading, expand};
 use nm_base::{Fault, Files, Left, Name, NoMemory, Pos, Refusal};
 use std::alloc::Global;
-
-/// An application as the front end gives it: its wired program, and the writes that make its image.
-#[derive(Drop)]
-pub(crate) struct Application {
-    pub program: Program,
-    pub writes: Vec<PortWrite>,
-}
-
-fn port_writes(alloc: Global, writes: &[Constant]) -> Result<Vec<PortWrite>, NoMemory>
-    ensures { IfOk result (λ v. v.items ≡ map port_write_of writes.now) }
-{
-    Ok(
-        writes
-            .iter()
-            .map(|write| PortWrite {
-                port: write.port,
-                value: write.value,
-            })
-            .collect(alloc)?,
-    )
-}
 
 // The form is not built yet.
 fn later() -> Fault
@@ -81,8 +59,8 @@ fn status_of(fault: Fault) -> Status
     }
 }
 
-// The answer to a fault. A refusal stands in `file`.
-fn says_fault(file: Option<Name>, fault: Fault) -> Stop
+/// The answer to a fault. A refusal stands in `file`.
+pub(crate) fn says_fault(file: Option<Name>, fault: Fault) -> Stop
     ensures status { IfSays result (λ a. a.status ≡ status_of fault) }
     ensures line { IfSays result (λ a. line_of a ≡ answer_line (unwrap_or file []) (status_of fault)) }
     ensures found { IfSays result (λ a. IsNoMemory fault → ⊥) }
@@ -119,20 +97,18 @@ fn read_writes<F: Files>(alloc: Global, files: &mut F, app: &str) -> Result<Vec<
     }
 }
 
-/// The application `app`, whose file is `app.nc`.
+/// The wired program of the application `app`, whose file is `app.nc`.
 pub(crate) fn read_application<F: Files>(
     alloc: Global,
     files: &mut F,
     app: &str,
-) -> Result<Application, Stop>
+) -> Result<Program, Stop>
     ensures outside { Reads result (F.seen files.old) (F.seen files.new) }
-    ensures wired { IfOk result (λ a. IsApplication a) }
-    ensures program { IfOk result (λ a. (told : Told) → (F.seen files.old).texts ≡ Some told → HasProgram told app.now (program_of a.program)) }
+    ensures wired { IfOk result (λ p. IsApplication (program_of p)) }
+    ensures program { IfOk result (λ p. (told : Told) → (F.seen files.old).texts ≡ Some told → HasProgram told app.now (program_of p)) }
     ensures says { IfErr result (λ s. IfSays s (SaysOfSource (F.seen files.old).texts app.now)) }
 {
     let writes = read_writes(alloc, files, app)?;
-    Ok(Application {
-        program: wired_program(alloc, app, &writes)?,
-        writes: port_writes(alloc, &writes)?,
-    })
+    let program = wired_program(alloc, app, &writes)?;
+    Ok(program)
 }

@@ -41,8 +41,8 @@ fn application<F: Files>(alloc: Global, files: &mut F, app: &str) -> Result<Subj
     ensures prints { IfOk result (PrintsAs (F.seen files.old).texts Mode.Run app.now) }
     ensures says { IfErr result (λ s. IfSays s (SaysOfSubject (F.seen files.old).texts Mode.Run app.now)) }
 {
-    let application = read_application(alloc, files, app)?;
-    let image = compile(alloc, &application)?;
+    let program = read_application(alloc, files, app)?;
+    let image = compile(alloc, &program)?;
     Ok(Subject {
         image: load_image(alloc, &image)?,
         head: Some(Head {

@@ -37,38 +37,46 @@ module/* the name */CommentedC/**/{//
 uses/**/interface/**/Boot/**/;/**/}/**/implementation/**/{/**/event/**/void/**/Boot/**/./**/booted/**/(/**/)/**/{/**/
 port_write/**/(/**/LED_PORT/**/,/**/5/**/)/**/;/**/port_write/**/(/**/LED_PORT/**/,/**/2/**/)/**/;/**/}/**/}/* the end */";
 
+// The first function combines results; its frame of 44 bytes is cleared.
 const FIRST_IMAGE: &str = "races 0
 data 0
-stack 4
+stack 102
 @4000
-31 40 00 39 32 D2 B2 40 05 00 20 01 B2 40 02 00
-20 01 32 D0 18 00 30 40 12 40 00 13
-@FFE0
-1A 40 1A 40 1A 40 1A 40 1A 40 1A 40 1A 40 1A 40
-00 40 00 40 00 40 00 40 00 40 00 40 00 40 00 40
+3C 40 16 00 03 12 1C 83 FD 23 91 41 30 00 04 00
+";
+
+// The lines lead to one function each, all else to reset.
+const FIRST_TRACE: &str = "@FFE0
+12 48 4A 48 82 48 BA 48 F2 48 2A 49 62 49 9A 49
+02 48 02 48 02 48 02 48 02 48 02 48 02 48 02 48
 q
 trace
+172 out 0120 5
+174 out 0120 2
+end slots 10000 ran 181 sp 38b8 off 1
 ";
 
-const FIRST_TRACE: &str = "2 out 0120 5
-3 out 0120 2
-end slots 10000 ran 5 sp 3900 off 1
+const NO_TRACE: &str = "q
+trace
+end slots 0 ran 0 sp 3900 off 0
 ";
 
-// Arrivals before, with and after the writes; the mask is closed, so none is taken.
+// Arrivals before, between and behind the writes; the mask is closed, so none is taken.
 const ARRIVALS: &[u8] = b"# a timer, a serial line, a radio
 0 arrive 1 250
-2 arrive 2 65
+173 arrive 2 65
 9000 arrive 3 7
 10000 arrive 3 8
 ";
 
-const ARRIVALS_TRACE: &str = "0 arrive 1 250
-2 arrive 2 65
-2 out 0120 5
-3 out 0120 2
+const ARRIVALS_TRACE: &str = "q
+trace
+0 arrive 1 250
+172 out 0120 5
+173 arrive 2 65
+174 out 0120 2
 9000 arrive 3 7
-end slots 10000 ran 5 sp 3900 off 1
+end slots 10000 ran 181 sp 38b8 off 1
 ";
 
 // Sets SP, and sleeps with GIE.
@@ -174,7 +182,7 @@ fn answer(
     Ok(tool(alloc, &words, &mut files, out, board(alloc)?).code())
 }
 
-// Words, the status, and the text in its parts.
+// Words, the status, and the text: a whole line or trace, or how a run's text begins and how it ends.
 type Case<'a> = (&'a [&'a str], u8, [&'a str; 2]);
 
 const CASES: [Case; 37] = [
@@ -198,7 +206,7 @@ const CASES: [Case; 37] = [
     (
         &["run", "OneC", "none.txt", "--budget", "0"],
         0,
-        [FIRST_IMAGE, "end slots 0 ran 0 sp 3900 off 0\n"],
+        [FIRST_IMAGE, NO_TRACE],
     ),
     (&["run", "OneC"], 2, [USAGE, ""]),
     (&["check", "OneC", "none.txt"], 2, [USAGE, ""]),
@@ -215,12 +223,12 @@ const CASES: [Case; 37] = [
     (
         &["run", "OneC", "none.txt", "--budget=0"],
         0,
-        [FIRST_IMAGE, "end slots 0 ran 0 sp 3900 off 0\n"],
+        [FIRST_IMAGE, NO_TRACE],
     ),
     (
         &["--budget", "0", "run", "OneC", "none.txt"],
         0,
-        [FIRST_IMAGE, "end slots 0 ran 0 sp 3900 off 0\n"],
+        [FIRST_IMAGE, NO_TRACE],
     ),
     (&["run", "-x", "none.txt"], 2, [USAGE, ""]),
     (&["--help"], 0, [HELP, ""]),
@@ -261,17 +269,17 @@ const CASES: [Case; 37] = [
     (
         &["mote", "sleep.txt", "none.txt", "--budget", "5"],
         0,
-        ["", "end slots 5 ran 2 sp 3900 off 1\n"],
+        ["end slots 5 ran 2 sp 3900 off 1\n", ""],
     ),
     (
         &["mote", "gate.txt", "third.txt", "--budget", "10"],
         0,
-        ["", GATE_BEFORE],
+        [GATE_BEFORE, ""],
     ),
     (
         &["mote", "gate.txt", "fourth.txt", "--budget", "10"],
         0,
-        ["", GATE_BEHIND],
+        [GATE_BEHIND, ""],
     ),
     (
         &["mote", "half.txt", "none.txt"],
@@ -324,10 +332,15 @@ const CASES: [Case; 37] = [
 // Whether a case has its status and its text.
 fn holds(alloc: Global, case: &Case) -> Result<bool, NoMemory> {
     let (words, status, [head, tail]) = case;
-    let mut out = MemSink::new(alloc, 4000, Vec::new(alloc))?;
+    let mut out = MemSink::new(alloc, 20_000, Vec::new(alloc))?;
     let found = answer(alloc, words, Vec::new(alloc), &mut out)?;
-    let text = format!(in alloc; "{head}{tail}")?;
-    Ok(found == *status && out.bytes() == text.as_bytes())
+    let text = out.bytes();
+    let is_text = if tail.is_empty() {
+        text == head.as_bytes()
+    } else {
+        text.starts_with(head.as_bytes()) && text.ends_with(tail.as_bytes())
+    };
+    Ok(found == *status && is_text)
 }
 
 #[test]
@@ -341,7 +354,7 @@ fn answers_with_its_text(rt: HostRuntime) -> Result<(), Fail> {
 #[test]
 fn reads_any_blanks_and_numbers(rt: HostRuntime) -> Result<(), Fail> {
     let alloc = rt.alloc();
-    let mut out = MemSink::new(alloc, 4000, Vec::new(alloc))?;
+    let mut out = MemSink::new(alloc, 20_000, Vec::new(alloc))?;
     let status = answer(
         alloc,
         &["run", "Tight", "none.txt"],
@@ -350,9 +363,9 @@ fn reads_any_blanks_and_numbers(rt: HostRuntime) -> Result<(), Fail> {
     )?;
     assert_eq!(rt; status, 0);
     let end: &[u8] = b"trace
-2 out 015e 65535
-3 out 0120 0
-end slots 10000 ran 5 sp 3900 off 1
+172 out 015e 65535
+174 out 0120 0
+end slots 10000 ran 181 sp 38b8 off 1
 ";
     assert!(rt; out.bytes().ends_with(end));
     Ok(())
@@ -363,13 +376,13 @@ fn says_what_the_outside_did(rt: HostRuntime) -> Result<(), Fail> {
     let alloc = rt.alloc();
     let run = ["run", "OneC", "none.txt"];
     for failed in [0, 1] {
-        let mut out = MemSink::new(alloc, 4000, Vec::new(alloc))?;
+        let mut out = MemSink::new(alloc, 20_000, Vec::new(alloc))?;
         let status = answer(alloc, &run, vec![in alloc; failed]?, &mut out)?;
         assert_eq!(rt; status, 4, "a read failed");
         assert_eq!(rt; out.bytes(), b"read fault\n".as_slice());
     }
 
-    let mut closed = MemSink::new(alloc, 4000, vec![in alloc; 0]?)?;
+    let mut closed = MemSink::new(alloc, 20_000, vec![in alloc; 0]?)?;
     let status = answer(alloc, &run, Vec::new(alloc), &mut closed)?;
     assert_eq!(rt; status, 5);
     assert_eq!(rt; closed.bytes(), b"".as_slice());

@@ -1,43 +1,17 @@
-use Rattle.std.proofs.Common.{◌≡◌, length, arith, ap, sym, subst, ◌∙◌, ◌≤◌}
-use Rattle.std.specs.List.{AllByRecursion}
-use Rattle.std.proofs.lemmas.List.{length-map}
-use Rattle.nesc_core.specs.Weights.{pace_of_program}
-use Rattle.core_meaning.specs.ConstantWrites.{IsWrite, WritesConstants}
-use Rattle.core_meaning.specs.SourceOf.{source_of}
-use Rattle.msp_isa.specs.Image.{image_map}
-use Rattle.mote_bus.specs.Mote.{mote}
-use Rattle.preempt_core.specs.Allowed.{Allowed}
-use Rattle.nm_driver.specs.Form.{port_write_of}
-use Rattle.nm_driver.specs.NamedFiles.{wired}
-use Rattle.nm_driver.proofs.Ports.{good_ports, wired_writes, paced}
+use Rattle.nesc_core.specs.View.{program_of}
+use Rattle.nm_driver.proofs.Compiled.{compilable, meets, no_answer, only_memory}
 use Rattle.nm_driver.proofs.compile.compile.Goals as goal
 
-pub image_of-requires-clause-few : goal.image_of-requires-clause-few
-image_of-requires-clause-few c =
-    let a = c.requires.wired in
-    let few = a.few in
-    omega (arith, few, ap length (c.deref.ensures.value ∙ a.writes), length-map a.constants port_write_of)
+pub build-requires : goal.build-requires
+build-requires c = compilable (program_of c.args.program.now) c.requires.wired c.constant_writes_compile.ensures
 
-pub image_of-requires-clause-good : goal.image_of-requires-clause-good
-image_of-requires-clause-good c =
-    let a = c.requires.wired in
-    subst (AllByRecursion IsWrite) (sym (c.deref.ensures.value ∙ a.writes)) (good_ports a.constants a.good)
+pub returns-in-Ok-clause-meets : goal.returns-in-Ok-clause-meets
+returns-in-Ok-clause-meets c =
+    let i = c.in-Ok.image in
+    let e = c.in-Ok.ensures in
+    meets (program_of c.args.program.now) c.requires.wired i.code.items i.vectors i.ram i.stack e.image e.runs e.data e.stack
 
-pub returns : goal.returns
-returns c =
-    let a = c.requires.wired in
-    let program = wired a.app a.constants in
-    let image = c.in_ok-image.image in
-    record {
-      meets = record {
-        allowed = λ b rows n.
-            subst (λ p. Allowed (source_of p) (pace_of_program p) b (mote (image_map image.code.items image.vectors) b rows) n) (sym a.program)
-            (c.in_ok-image.ensures.allowed (source_of program) b rows (pace_of_program program) n
-            (subst (WritesConstants (source_of program)) (sym (c.deref.ensures.value ∙ a.writes)) (wired_writes a.app a.constants a.good))
-            (paced program));
-        bounded = c.in_ok-image.ensures.stack;
-        image = c.in_ok-image.ensures.image;
-        no_data = c.in_ok-image.ensures.data;
-        fits = c.in_ok-image.ensures.room;
-      };
-    }
+pub returns-in-Err-clause-fits : goal.returns-in-Err-clause-fits
+returns-in-Err-clause-fits c =
+    let only = only_memory (program_of c.args.program.now) c.requires.wired c.constant_writes_fit.ensures c.in-Err.fault c.in-Err.ensures.cause in
+    no_answer c.in-Err.fault only c.says_fault.result c.says_fault.ensures.found

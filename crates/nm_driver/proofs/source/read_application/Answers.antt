@@ -1,5 +1,4 @@
 use Rattle.std.proofs.Common.{map, ap, ◌∙◌}
-use Rattle.nm_driver.specs.Form.{port_write_of}
 use Rattle.nm_driver.specs.NamedFiles.{wired}
 use Rattle.nm_driver.proofs.Writable.{good_writes}
 use Rattle.nm_driver.proofs.source.read_application.Goals as goal
@@ -9,16 +8,14 @@ returns-clause-wired g c =
     let form = c.in_ok-writes.ensures.form.1 in
     record {
       app = c.args.app.now;
-      constants = c.in_ok-writes.writes.items;
-      few = form.few;
-      good = good_writes form.body c.in_ok-writes.writes.items form.statements;
-      program = c.in_ok-wired_program.ensures ∙ ap (wired c.args.app.now) c.deref.ensures.value;
-      writes = c.in_ok-port_writes.ensures ∙ ap (map port_write_of) c.deref-2.ensures.value;
+      writes = c.in_ok-writes.writes.items;
+      good = good_writes form.body c.in_ok-writes.writes.items form.statements form.few;
+      is = c.in_ok-program.ensures ∙ ap (wired c.args.app.now) c.deref.ensures.value;
     }
 
 pub returns-clause-program : goal.returns-clause-program
 returns-clause-program g c told h = record {
   writes = c.in_ok-writes.writes.items;
   source = c.in_ok-writes.ensures.writes told h;
-  is_wired = c.in_ok-wired_program.ensures ∙ ap (wired c.args.app.now) c.deref.ensures.value;
+  is_wired = c.in_ok-program.ensures ∙ ap (wired c.args.app.now) c.deref.ensures.value;
 }

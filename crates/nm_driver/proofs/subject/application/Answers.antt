@@ -16,7 +16,7 @@ returns-clause-prints g c = λ board rows budget.
     let loaded : List ℕ = c.in_ok-load_image.field-0 in
     let trace : List ℕ = mote_text (bytes_map loaded) board rows budget in
     let sizes : List ℕ = string_bytes c.in_ok-sizes_of.field-0 in (
-      program_of c.in_ok-application.application.program,
+      program_of c.in_ok-program.program,
       record {
         code = code;
         vectors = vectors;
@@ -26,5 +26,5 @@ returns-clause-prints g c = λ board rows budget.
             ∙ ap (λ m. head_text code vectors image.ram image.stack ++ mote_text m board rows budget) c.in_ok-load_image.ensures;
         meets = c.in_ok-image.ensures.meets;
       },
-      c.in_ok-application.ensures.program,
+      c.in_ok-program.ensures.program,
     )
