@@ -10,7 +10,7 @@ use Rattle.mote_devices.specs.declared.shown.Due.{Due}
 use Rattle.mote_bus.specs.Mote.{mote}
 use Rattle.msp_select.specs.AtomicRow.{code}
 use Rattle.preempt_core.specs.Allowed.{Allowed}
-use Rattle.preempt_core.specs.ConstantWrites.{vectors_at}
+use Rattle.preempt_core.specs.Vectors.{vectors_at}
 use Rattle.compiled_image.specs.Compiled.{source_of}
 
 -- function 0 is the boot body and the handler of every line

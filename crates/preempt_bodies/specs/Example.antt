@@ -9,7 +9,7 @@ use Rattle.mote_bus.specs.Mote.{mote}
 use Rattle.open_law.specs.Body.{acts}
 use Rattle.open_law.specs.Laws.{nothing}
 use Rattle.preempt_core.specs.Allowed.{Allowed}
-use Rattle.preempt_core.specs.ConstantWrites.{vectors_at}
+use Rattle.preempt_core.specs.Vectors.{vectors_at}
 
 -- body 0 does nothing. It is the boot body and the handler of every line
 abbrev pub idle_source : Source

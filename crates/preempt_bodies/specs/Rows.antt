@@ -4,7 +4,7 @@ use Rattle.mote_devices.specs.declared.shown.Shown.{Shown}
 use Rattle.mote_devices.specs.declared.shown.Shown.TheVariants as shown
 use Rattle.msp_isa.specs.Image.{image_map}
 use Rattle.mote_bus.specs.Mote.{Result, mote}
-use Rattle.preempt_core.specs.ConstantWrites.{vectors_at}
+use Rattle.preempt_core.specs.Vectors.{vectors_at}
 use Rattle.preempt_core.specs.Rows.{byte_in, gate_board}
 
 -- Reset and sleep. At 0x4010 the boot body: PUSH #0, twice; MOV #1, R15; MOV #4, &0x0100 opens line 2; the outer statement begins, R15 goes to
