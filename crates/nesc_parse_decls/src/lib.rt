@@ -7,3 +7,4 @@ mod parts;
 
 pub use attribute_reader::attributes;
 pub use inits::{begins_init, braces, init};
+pub use parts::{added, no_list, single};
