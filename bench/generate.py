@@ -1,6 +1,6 @@
 #!/usr/bin/env python3
 """Writes the sources that the preprocessor's times are measured on, into a folder: NAME.nc each, of one shape,
-and an empty schedule, none.txt."""
+a header of comments, and an empty schedule, none.txt."""
 import os
 import random
 import sys
@@ -13,8 +13,8 @@ def plain():
     return filled(lambda n: line % (n, n))
 
 
-def comments():
-    return filled(lambda n: "/* a comment of some words, number %d, of which no token comes */\n// and another one %d\n" % (n, n)) + "int x;\n"
+def comments(size=SIZE):
+    return filled(lambda n: "/* a comment of some words, number %d, of which no token comes */\n// and another one %d\n" % (n, n), size) + "int x;\n"
 
 
 def small_macros():
@@ -50,11 +50,19 @@ def nested(depth):
     return "#define F(x) x\nint a = " + "F(" * depth + "1" + ")" * depth + ";\n"
 
 
-def filled(row):
-    out, size, n = [], 0, 0
-    while size < SIZE:
+def nested_pair(depth):
+    return "#define F(x, y) y\nint a = " + "F(1, " * depth + "1" + ")" * depth + ";\n"
+
+
+def inclusions(count):
+    return '#include "comments.h"\n' * count
+
+
+def filled(row, size=SIZE):
+    out, have, n = [], 0, 0
+    while have < size:
         out.append(row(n))
-        size += len(out[-1])
+        have += len(out[-1])
         n += 1
     return "".join(out)
 
@@ -64,6 +72,8 @@ SHAPES.update({"Chain%d" % n: (lambda n=n: chain(n)) for n in (1000, 2000, 4000,
 SHAPES.update({"ChainInChain%d" % n: (lambda n=n: chain_in_chain(n)) for n in (750, 1500, 3000)})
 SHAPES.update({"Shuffled%d" % n: (lambda n=n: shuffled(n)) for n in (2000, 4000, 8000)})
 SHAPES.update({"Nested%d" % n: (lambda n=n: nested(n)) for n in (1000, 2000, 4000, 8000)})
+SHAPES.update({"NestedPair%d" % n: (lambda n=n: nested_pair(n)) for n in (2000, 4000, 8000)})
+SHAPES.update({"Inclusions%d" % n: (lambda n=n: inclusions(n)) for n in (2750, 5500, 11000)})
 
 if __name__ == "__main__":
     folder = sys.argv[1]
@@ -71,5 +81,7 @@ if __name__ == "__main__":
     for name, text in SHAPES.items():
         with open(os.path.join(folder, name + ".nc"), "w") as file:
             file.write(text())
+    with open(os.path.join(folder, "comments.h"), "w") as file:
+        file.write(comments(20_000))
     with open(os.path.join(folder, "none.txt"), "w"):
         pass
