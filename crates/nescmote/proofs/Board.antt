@@ -1,10 +1,11 @@
 -- The board of the program's devices, and an answer that was kept back for want of memory.
-use Rattle.std.proofs.Common.{◌≡◌, List, [], ◌∷◌, map, Option, ℕ, ap, inl, inr, refl, subst, ◌∙◌}
+use Rattle.std.proofs.Common.{◌≡◌, List, [], ◌∷◌, map, Option, ℕ, arith, ap, inl, inr, refl, subst, ◌∙◌}
 use Rattle.std.specs.Prelude.{false}
 use denote.Param.Object.{Made, read_made}
 use denote.Param.Table.{Table, Entry}
 use Rattle.mote_devices.specs.declared.state.DevState.{DevState}
 use Rattle.mote_devices.specs.declared.state.DevState.TheVariants.{Leds, Timer, Serial, Radio, Sensor}
+use Rattle.mote_devices.specs.WordBoards.{IsWordBoard}
 use Rattle.mote_bus.specs.Slots.{board_of}
 use Rattle.nm_driver.specs.declared.status.Status.{Status}
 use Rattle.nm_base.specs.Outside.{FilesSeen, SinkSeen}
@@ -23,6 +24,14 @@ use Rattle.nescmote.specs.Answered.{new_devices}
 pub read_as : {G : Type 0 → Type 1} {C : Type 0} (T : Table G C) (at i : T.I) (y : (T.entry i).0.Denot) (x : (T.entry at).0.Denot) → Made (λ j. (T.entry j).0.coded.code) (T.entry at).0.coded.code at i y x
     → (read : (j : Entry G C) → j.0.Denot → DevState) → read (T.entry i) y ≡ read (T.entry at) x
 read_as T at i y x made read = read_made T (T.entry at) at refl DevState read i y x made
+
+-- its registers hold words: all of them are 0
+pub board_of_words : IsWordBoard (board_of new_devices)
+board_of_words = record {
+  mask = omega arith;
+  slots = (omega arith, ((omega arith, omega arith), (omega arith, ((omega arith, omega arith), (omega arith, (tt, (tt, (tt, tt))))))));
+  eight = omega arith;
+}
 
 module _ {B : Type 0} (state : B → DevState) (items : List B) (a b c d e : B) where
   -- what was written for a board of these five devices

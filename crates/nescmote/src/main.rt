@@ -4,6 +4,7 @@
 ghost use Rattle.std.specs.Prelude.{◌≡◌, map, string_bytes, IfOk, OnErr};
 ghost use Rattle.std.specs.Process.{exit_status};
 ghost use Rattle.mote_bus.specs.Slots.{board_of};
+ghost use Rattle.mote_devices.specs.WordBoards.{IsWordBoard};
 ghost use Rattle.nm_driver.specs.Output.{IsAnswer};
 ghost use Rattle.nescmote.specs.Answered.{IsAnswered, new_devices, words_or_none};
 
@@ -56,14 +57,16 @@ fn answer<F: Files, S: Sink>(
     }
 }
 
-// The number of that answer.
+// The number of that answer. The registers of the board hold words.
+#[tactic(auto, using(crate::proofs::Board::board_of_words))]
 fn run<F: Files, S: Sink>(
     alloc: Global,
     words: io::Result<Vec<String>>,
     files: &mut F,
     out: &mut S,
 ) -> ExitCode
-    ensures { IsAnswered (words_or_none (λ ws. map string_bytes ws.items) words) (F.seen files.old) (F.seen files.new) (S.seen out.old) (S.seen out.new) (exit_status result) }
+    ensures answer { IsAnswered (words_or_none (λ ws. map string_bytes ws.items) words) (F.seen files.old) (F.seen files.new) (S.seen out.old) (S.seen out.new) (exit_status result) }
+    ensures board { IsWordBoard (board_of new_devices) }
 {
     let status = answer(alloc, words, files, out);
     ExitCode::from(status.code())
