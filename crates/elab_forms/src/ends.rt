@@ -24,7 +24,11 @@ fn in_expr(e: &Expr, before: u32) -> Result<u32, NoMemory>
         | Expr::UniqueCount(_, _)
         | Expr::Post(_, _) => Ok(before),
         Expr::Unary(_, a, _) | Expr::Postfix(_, a, _) => in_expr(a.get(), before),
-        Expr::Binary(_, a, b, _) | Expr::Assign(_, a, b, _) => {
+        Expr::Binary(_, a, b, _)
+        | Expr::Assign(_, a, b, _)
+        | Expr::Comma(a, b, _)
+        | Expr::Index(a, b, _)
+        | Expr::PortWrite(a, b, _) => {
             let first = in_expr(a.get(), before)?;
             in_expr(b.get(), first)
         }
@@ -33,15 +37,10 @@ fn in_expr(e: &Expr, before: u32) -> Result<u32, NoMemory>
             let second = in_expr(b.get(), first)?;
             in_expr(c.get(), second)
         }
-        Expr::Comma(a, b, _) | Expr::Index(a, b, _) => {
-            let first = in_expr(a.get(), before)?;
-            in_expr(b.get(), first)
-        }
         Expr::Cast(t, a, _) => {
             let first = in_type(t, before)?;
             in_expr(a.get(), first)
         }
-        Expr::SizeOfExpr(a, _) => in_expr(a.get(), before),
         Expr::SizeOfType(t, _) => in_type(t, before),
         Expr::Member(a, _, _) | Expr::Arrow(a, _, _) => in_expr(a.get(), before),
         Expr::CallFn(_, args, _) => in_list(args, before),
@@ -49,11 +48,7 @@ fn in_expr(e: &Expr, before: u32) -> Result<u32, NoMemory>
             let first = in_parameter(param, before)?;
             in_list(args, first)
         }
-        Expr::PortRead(p, _) => in_expr(p.get(), before),
-        Expr::PortWrite(p, a, _) => {
-            let first = in_expr(p.get(), before)?;
-            in_expr(a.get(), first)
-        }
+        Expr::SizeOfExpr(a, _) | Expr::PortRead(a, _) => in_expr(a.get(), before),
     }
 }
 
