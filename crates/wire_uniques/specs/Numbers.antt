@@ -5,7 +5,7 @@ use Rattle.wire_names.specs.Places.{Placed, place_of}
 use Rattle.wire_instances.specs.declared.plan.Made.{Made}
 use Rattle.wire_units.specs.declared.loaded.Loaded.{Loaded}
 use Rattle.wire_uniques.specs.Expressions.{Texts}
-use Rattle.wire_uniques.specs.Parts.{in_instance, in_headers, parts_of, uses_of}
+use Rattle.wire_uniques.specs.Parts.{in_instance, in_headers, parts_of}
 
 abbrev pub count_of : Texts → List ℕ → ℕ
 count_of [] text = 0

@@ -1,9 +1,8 @@
 -- The texts of the uses of `unique` in what a file holds, in the order of the source: those of an instance are those of its
 -- component's file.
-use Rattle.std.specs.Prelude.{ℕ, Bool, cond, List, [], ◌∷◌, ◌++◌, map, Option, Some, None, option_map, slice_get}
+use Rattle.std.specs.Prelude.{cond, List, [], ◌++◌, map, Option, option_map, slice_get}
 use Rattle.nesc_tree.specs.View.{expr_of, spec_of}
 use Rattle.nesc_tree.specs.declared.tree.TypeSpec as type
-use Rattle.nesc_tree.specs.declared.declarations.Decl.{Decl}
 use Rattle.nesc_tree.specs.declared.components.Part.{Part}
 use Rattle.nesc_tree.specs.declared.components.Part.TheVariants as part
 use Rattle.nesc_tree.specs.declared.components.Head.{Head}

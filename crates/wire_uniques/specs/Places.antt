@@ -1,5 +1,5 @@
 -- Where an expression begins.
-use Rattle.std.specs.Prelude.{ℕ, Bool, false, ◌&&◌, ◌||◌, nat_lt, ◌==◌}
+use Rattle.std.specs.Prelude.{Bool, false, ◌&&◌, ◌||◌, nat_lt, ◌==◌}
 use Rattle.nm_base.specs.declared.pos.Pos.{Pos}
 use Rattle.nesc_tree.specs.Plain as p
 

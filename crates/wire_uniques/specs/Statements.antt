@@ -1,6 +1,6 @@
 -- The texts of the uses of `unique` in declarations and statements, in the order of the source. Attributes have no effect but
 -- `@vector`, whose number is a constant; the others give no number.
-use Rattle.std.specs.Prelude.{ℕ, Bool, cond, List, [], ◌∷◌, ◌++◌, map, codes, bytes_eq, Option, Some, None, option_map}
+use Rattle.std.specs.Prelude.{cond, List, [], ◌∷◌, ◌++◌, map, codes, bytes_eq, Option, Some, None, option_map}
 use Rattle.nesc_tree.specs.View.{expr_of, spec_of}
 use Rattle.nesc_tree.specs.declared.tree.Param.{Param}
 use Rattle.nesc_tree.specs.declared.declarations.Init.{Init, Init-F, fold-Init}

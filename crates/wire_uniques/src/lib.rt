@@ -1,6 +1,7 @@
 //! The uses of `unique` in the sources of an application, and their numbers.
 #![tactic(auto)]
 
+mod all_uses;
 mod counter;
 mod declarations;
 mod expressions;
@@ -8,5 +9,4 @@ mod part;
 mod place;
 mod statements;
 
-pub use counter::Counter;
-pub use part::in_part;
+pub use all_uses::{Uniques, number_uses};
