@@ -7,6 +7,8 @@ mod declarations;
 mod expressions;
 mod part;
 mod place;
+mod rows;
 mod statements;
 
 pub use all_uses::{Uniques, number_uses};
+pub use rows::worked_rows;
