@@ -4,20 +4,20 @@ use Rattle.std.specs.Prelude.{◌≡◌, ℕ, ◌+◌, List, [], ◌∷◌, ◌+
 use Rattle.wire_names.specs.Places.{Placed, place_of}
 use Rattle.wire_instances.specs.declared.plan.Made.{Made}
 use Rattle.wire_units.specs.declared.loaded.Loaded.{Loaded}
-use Rattle.wire_uniques.specs.Expressions.{Texts}
+use Rattle.wire_uniques.specs.Expressions.{Uses}
 use Rattle.wire_uniques.specs.Parts.{in_instance, in_headers, parts_of}
 
-abbrev pub count_of : Texts → List ℕ → ℕ
+abbrev pub count_of : Uses → List ℕ → ℕ
 count_of [] text = 0
-count_of (one ∷ uses) text = if bytes_eq text one then suc (count_of uses text) else count_of uses text
+count_of (one ∷ uses) text = if bytes_eq text one.text then suc (count_of uses text) else count_of uses text
 
 -- the numbers of uses that stand behind earlier ones
-abbrev pub numbered : Texts → Texts → List ℕ
+abbrev pub numbered : Uses → Uses → List ℕ
 numbered earlier [] = []
-numbered earlier (text ∷ uses) = count_of earlier text ∷ numbered (earlier ++ text ∷ []) uses
+numbered earlier (one ∷ uses) = count_of earlier one.text ∷ numbered (earlier ++ one ∷ []) uses
 
 -- how many uses stand before each instance
-abbrev pub starts_from : List Texts → ℕ → List Made → List ℕ
+abbrev pub starts_from : List Uses → ℕ → List Made → List ℕ
 starts_from parts before [] = []
 starts_from parts before (m ∷ ms) = before ∷ starts_from parts (before + length (in_instance parts m)) ms
 
@@ -25,6 +25,6 @@ abbrev pub starts_of : List Loaded → List Made → List ℕ
 starts_of units made = starts_from (parts_of units) (length (in_headers units)) made
 
 -- the counts and the numbers behind these uses
-pub record AreNumbers (counts : Placed) (numbers : List ℕ) (uses : Texts) : Type 0 where
+pub record AreNumbers (counts : Placed) (numbers : List ℕ) (uses : Uses) : Type 0 where
   pub counted : (text : List ℕ) → unwrap_or (place_of counts text) 0 ≡ count_of uses text
   pub given : numbers ≡ numbered [] uses

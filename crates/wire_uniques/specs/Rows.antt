@@ -1,5 +1,5 @@
 -- Worked rows of `unique`.
-use Rattle.std.specs.Prelude.{◌≡◌, ℕ, List, [], ◌∷◌, codes, Some, None, Result, Ok, Err}
+use Rattle.std.specs.Prelude.{◌≡◌, ℕ, map, List, [], ◌∷◌, codes, Some, None, Result, Ok, Err}
 use Rattle.nm_base.specs.declared.pos.Pos.{Pos}
 use Rattle.nesc_tree.specs.declared.tree.TypeSpec.{TypeSpec}
 use Rattle.nesc_tree.specs.declared.tree.Expr as tree
@@ -11,11 +11,19 @@ use Rattle.wire_instances.specs.declared.naming.Stop.{Stop}
 use Rattle.wire_units.specs.declared.loaded.Loaded.{Loaded}
 use Rattle.wire_units.specs.Plans.{created_of}
 use Rattle.wire_units.specs.Rows.{pos, configuration, generic_configuration, module_of, named, new_as, end, main, boot, init}
+use Rattle.wire_uniques.specs.declared.used.Use.{Use}
+use Rattle.wire_uniques.specs.Expressions.{Uses}
 use Rattle.wire_uniques.specs.Numbers.{numbered, count_of, starts_of}
 use Rattle.wire_uniques.specs.Parts.{in_link, uses_of}
 
 abbrev pub is_unique : tree.Expr → List ℕ → Pos → Type 0
 is_unique e text at = expr_of e ≡ p.unique text at
+
+abbrev pub used : List ℕ → ℕ → Use
+used text col = record { text = text; at = record { file = 0; line = 3; col = col } }
+
+abbrev pub texts : List (List ℕ) → Uses
+texts ts = map (λ (t : List ℕ). used t 1) ts
 
 abbrev pub numbers : List Loaded → Result (List Made) Stop → List ℕ
 numbers units (Ok made) = numbered [] (uses_of units made)
@@ -43,11 +51,11 @@ pub record WorkedRows (t : TypeSpec) : Type 0 where
   pub three : (e : tree.Expr) → is_unique e (codes "T") (pos 4 5) → numbers (timers t e) (created_of (timers t e) 0 (pos 0 9) 1) ≡ 0 ∷ 1 ∷ 2 ∷ []
   -- the application, T, P, T, T and MainC
   pub places : (e : tree.Expr) → is_unique e (codes "T") (pos 4 5) → starts (timers t e) (created_of (timers t e) 0 (pos 0 9) 1) ≡ 0 ∷ 0 ∷ 1 ∷ 1 ∷ 2 ∷ 3 ∷ []
-  pub by_text : numbered [] (codes "a" ∷ codes "b" ∷ codes "a" ∷ codes "ab" ∷ codes "a" ∷ codes "b" ∷ []) ≡ 0 ∷ 0 ∷ 1 ∷ 0 ∷ 2 ∷ 1 ∷ []
-  pub counts : count_of (codes "a" ∷ codes "b" ∷ codes "a" ∷ []) (codes "a") ≡ 2
-  pub unused : count_of (codes "a" ∷ []) (codes "c") ≡ 0
+  pub by_text : numbered [] (texts (codes "a" ∷ codes "b" ∷ codes "a" ∷ codes "ab" ∷ codes "a" ∷ codes "b" ∷ [])) ≡ 0 ∷ 0 ∷ 1 ∷ 0 ∷ 2 ∷ 1 ∷ []
+  pub counts : count_of (texts (codes "a" ∷ codes "b" ∷ codes "a" ∷ [])) (codes "a") ≡ 2
+  pub unused : count_of (texts (codes "a" ∷ [])) (codes "c") ≡ 0
   -- `B[unique("b")] <- A[unique("a")]` begins with the end that it leads to
   pub from_the_right : (a b : tree.Expr) → is_unique a (codes "a") (record { file = 0; line = 3; col = 20 }) → is_unique b (codes "b") (record { file = 0; line = 3; col = 5 })
-      → in_link (record { first = codes "A"; second = None; param = Some a }) (record { first = codes "B"; second = None; param = Some b }) ≡ codes "b" ∷ codes "a" ∷ []
+      → in_link (record { first = codes "A"; second = None; param = Some a }) (record { first = codes "B"; second = None; param = Some b }) ≡ used (codes "b") 5 ∷ used (codes "a") 20 ∷ []
   pub from_the_left : (a b : tree.Expr) → is_unique a (codes "a") (record { file = 0; line = 3; col = 5 }) → is_unique b (codes "b") (record { file = 0; line = 3; col = 20 })
-      → in_link (record { first = codes "A"; second = None; param = Some a }) (record { first = codes "B"; second = None; param = Some b }) ≡ codes "a" ∷ codes "b" ∷ []
+      → in_link (record { first = codes "A"; second = None; param = Some a }) (record { first = codes "B"; second = None; param = Some b }) ≡ used (codes "a") 5 ∷ used (codes "b") 20 ∷ []

@@ -2,9 +2,10 @@
 
 ghost use Rattle.std.specs.Prelude.{◌≡◌, ◌+◌, ◌++◌, ◌∷◌, [], OnOk, length, unwrap_or, List as ListOf};
 ghost use Rattle.wire_names.specs.Places.{place_of};
-ghost use Rattle.wire_uniques.specs.Expressions.{Texts};
+ghost use Rattle.wire_uniques.specs.Expressions.{Uses};
 ghost use Rattle.wire_uniques.specs.Numbers.{AreNumbers};
 
+use crate::used::Use;
 use nm_base::{Name, NoMemory};
 use std::alloc::Global;
 use wire_names::Places;
@@ -34,26 +35,26 @@ impl Counter {
         self.counts.get(text).unwrap_or(0)
     }
 
-    fn take(&mut self, text: &Name) -> Result<(), NoMemory>
-        ensures numbered { OnOk result ((uses : Texts) → AreNumbers self.old.counts self.old.numbers.items uses → AreNumbers self.new.counts self.new.numbers.items (uses ++ text.now ∷ [])) }
+    fn take(&mut self, one: &Use) -> Result<(), NoMemory>
+        ensures numbered { OnOk result ((uses : Uses) → AreNumbers self.old.counts self.old.numbers.items uses → AreNumbers self.new.counts self.new.numbers.items (uses ++ one.now ∷ [])) }
         ensures grows { OnOk result (length self.new.numbers.items ≡ length self.old.numbers.items + 1) }
     {
-        let count = self.count(text);
+        let count = self.count(&one.text);
         let Some(more) = count.checked_add(1) else {
             return Err(NoMemory);
         };
-        self.counts.set(text, more)?;
+        self.counts.set(&one.text, more)?;
         self.numbers.push(count)?;
         Ok(())
     }
 
-    /// Numbers the uses of these texts behind the earlier ones.
-    pub fn take_all(&mut self, texts: &[Name]) -> Result<(), NoMemory>
-        ensures numbered { OnOk result ((uses : Texts) → AreNumbers self.old.counts self.old.numbers.items uses → AreNumbers self.new.counts self.new.numbers.items (uses ++ texts.now)) }
-        ensures grows { OnOk result (length self.new.numbers.items ≡ length self.old.numbers.items + length texts.now) }
+    /// Numbers these uses behind the earlier ones.
+    pub fn take_all(&mut self, more: &[Use]) -> Result<(), NoMemory>
+        ensures numbered { OnOk result ((uses : Uses) → AreNumbers self.old.counts self.old.numbers.items uses → AreNumbers self.new.counts self.new.numbers.items (uses ++ more.now)) }
+        ensures grows { OnOk result (length self.new.numbers.items ≡ length self.old.numbers.items + length more.now) }
     {
-        for text in texts {
-            self.take(text)?;
+        for one in more {
+            self.take(one)?;
         }
         Ok(())
     }

@@ -4,11 +4,12 @@ ghost use Rattle.std.specs.Prelude.{◌≡◌, ◌++◌, OnOk, codes, bytes_eq};
 ghost use Rattle.wire_uniques.specs.Statements as spec;
 
 use crate::expressions::{in_declarator, in_expr, in_type};
+use crate::used::Use;
 use nesc_tree::{Attr, AttrArg, FuncHead, Init, Param, VarGroup, Variable};
 use nm_base::{List, Name, NoMemory};
 
 #[cycle(inits)]
-fn in_init(found: &mut Vec<Name>, init: &Init) -> Result<(), NoMemory>
+fn in_init(found: &mut Vec<Use>, init: &Init) -> Result<(), NoMemory>
     ensures { OnOk result (found.new.items ≡ found.old.items ++ spec.in_init init.now) }
 {
     match init {
@@ -19,7 +20,7 @@ fn in_init(found: &mut Vec<Name>, init: &Init) -> Result<(), NoMemory>
 
 #[cycle(inits)]
 #[tactic(auto, using(crate::proofs::Parts::parts))]
-fn in_inits(found: &mut Vec<Name>, inits: &List<Init>) -> Result<(), NoMemory>
+fn in_inits(found: &mut Vec<Use>, inits: &List<Init>) -> Result<(), NoMemory>
     ensures { OnOk result (found.new.items ≡ found.old.items ++ spec.in_inits inits.now) }
 {
     for init in inits.as_slice() {
@@ -28,7 +29,7 @@ fn in_inits(found: &mut Vec<Name>, inits: &List<Init>) -> Result<(), NoMemory>
     Ok(())
 }
 
-fn in_variable(found: &mut Vec<Name>, variable: &Variable) -> Result<(), NoMemory>
+fn in_variable(found: &mut Vec<Use>, variable: &Variable) -> Result<(), NoMemory>
     ensures { OnOk result (found.new.items ≡ found.old.items ++ spec.in_variable variable.now) }
 {
     in_declarator(found, &variable.declarator)?;
@@ -39,7 +40,7 @@ fn in_variable(found: &mut Vec<Name>, variable: &Variable) -> Result<(), NoMemor
 }
 
 #[tactic(auto, using(crate::proofs::Parts::parts))]
-fn in_variables(found: &mut Vec<Name>, variables: &List<Variable>) -> Result<(), NoMemory>
+fn in_variables(found: &mut Vec<Use>, variables: &List<Variable>) -> Result<(), NoMemory>
     ensures { OnOk result (found.new.items ≡ found.old.items ++ spec.in_variables variables.now) }
 {
     for variable in variables.as_slice() {
@@ -49,7 +50,7 @@ fn in_variables(found: &mut Vec<Name>, variables: &List<Variable>) -> Result<(),
 }
 
 /// Adds the uses in variables that share a type.
-pub fn in_vars(found: &mut Vec<Name>, group: &VarGroup) -> Result<(), NoMemory>
+pub fn in_vars(found: &mut Vec<Use>, group: &VarGroup) -> Result<(), NoMemory>
     ensures { OnOk result (found.new.items ≡ found.old.items ++ spec.in_vars group.now) }
 {
     in_type(found, &group.ty)?;
@@ -57,7 +58,7 @@ pub fn in_vars(found: &mut Vec<Name>, group: &VarGroup) -> Result<(), NoMemory>
 }
 
 #[tactic(auto, using(crate::proofs::Parts::parts))]
-fn in_params(found: &mut Vec<Name>, params: &List<Param>) -> Result<(), NoMemory>
+fn in_params(found: &mut Vec<Use>, params: &List<Param>) -> Result<(), NoMemory>
     ensures { OnOk result (found.new.items ≡ found.old.items ++ spec.in_params params.now) }
 {
     for param in params.as_slice() {
@@ -66,7 +67,7 @@ fn in_params(found: &mut Vec<Name>, params: &List<Param>) -> Result<(), NoMemory
     Ok(())
 }
 
-fn in_bracket(found: &mut Vec<Name>, bracket: &Option<Param>) -> Result<(), NoMemory>
+fn in_bracket(found: &mut Vec<Use>, bracket: &Option<Param>) -> Result<(), NoMemory>
     ensures { OnOk result (found.new.items ≡ found.old.items ++ spec.in_bracket bracket.now) }
 {
     match bracket {
@@ -75,7 +76,7 @@ fn in_bracket(found: &mut Vec<Name>, bracket: &Option<Param>) -> Result<(), NoMe
     }
 }
 
-fn in_arg(found: &mut Vec<Name>, arg: &AttrArg) -> Result<(), NoMemory>
+fn in_arg(found: &mut Vec<Use>, arg: &AttrArg) -> Result<(), NoMemory>
     ensures { OnOk result (found.new.items ≡ found.old.items ++ spec.in_arg arg.now) }
 {
     match arg {
@@ -85,7 +86,7 @@ fn in_arg(found: &mut Vec<Name>, arg: &AttrArg) -> Result<(), NoMemory>
 }
 
 #[tactic(auto, using(crate::proofs::Parts::parts))]
-fn in_args(found: &mut Vec<Name>, args: &List<AttrArg>) -> Result<(), NoMemory>
+fn in_args(found: &mut Vec<Use>, args: &List<AttrArg>) -> Result<(), NoMemory>
     ensures { OnOk result (found.new.items ≡ found.old.items ++ spec.in_args args.now) }
 {
     for arg in args.as_slice() {
@@ -100,7 +101,7 @@ fn is_vector(name: &Name) -> bool
     name.as_bytes() == b"vector".as_slice()
 }
 
-fn in_attr(found: &mut Vec<Name>, attr: &Attr) -> Result<(), NoMemory>
+fn in_attr(found: &mut Vec<Use>, attr: &Attr) -> Result<(), NoMemory>
     ensures { OnOk result (found.new.items ≡ found.old.items ++ spec.in_attr attr.now) }
 {
     if is_vector(&attr.name) {
@@ -111,7 +112,7 @@ fn in_attr(found: &mut Vec<Name>, attr: &Attr) -> Result<(), NoMemory>
 }
 
 #[tactic(auto, using(crate::proofs::Parts::parts))]
-fn in_attrs(found: &mut Vec<Name>, attrs: &List<Attr>) -> Result<(), NoMemory>
+fn in_attrs(found: &mut Vec<Use>, attrs: &List<Attr>) -> Result<(), NoMemory>
     ensures { OnOk result (found.new.items ≡ found.old.items ++ spec.in_attrs attrs.now) }
 {
     for attr in attrs.as_slice() {
@@ -121,7 +122,7 @@ fn in_attrs(found: &mut Vec<Name>, attrs: &List<Attr>) -> Result<(), NoMemory>
 }
 
 /// Adds the uses in the head of a function.
-pub fn in_head(found: &mut Vec<Name>, head: &FuncHead) -> Result<(), NoMemory>
+pub fn in_head(found: &mut Vec<Use>, head: &FuncHead) -> Result<(), NoMemory>
     ensures { OnOk result (found.new.items ≡ found.old.items ++ spec.in_head head.now) }
 {
     in_type(found, &head.result)?;

@@ -1,23 +1,25 @@
-//! The uses of `unique` in expressions and types. Each function adds the texts of the uses in its part to those before it.
+//! The uses of `unique` in expressions and types. Each function adds the uses in its part to those before it.
 
 ghost use Rattle.std.specs.Prelude.{◌≡◌, ◌++◌, ◌∷◌, [], OnOk};
 ghost use Rattle.nesc_tree.specs.View.{base_of, expr_of, exprs_of, spec_of};
 ghost use Rattle.wire_uniques.specs.Expressions as spec;
 ghost use Rattle.wire_uniques.specs.Trees.{declarator_of, declarators_of, group_of, groups_of, items_of, maybe_of};
 
+use crate::used::Use;
 use nesc_tree::{Base, Declarator, EnumItem, Expr, FieldGroup, TypeSpec};
-use nm_base::{Boxed, List, Name, NoMemory};
+use nm_base::{Boxed, List, Name, NoMemory, Pos};
 
-fn add(found: &mut Vec<Name>, text: &Name) -> Result<(), NoMemory>
-    ensures { OnOk result (found.new.items ≡ found.old.items ++ text.now ∷ []) }
+fn add(found: &mut Vec<Use>, text: &Name, at: Pos) -> Result<(), NoMemory>
+    ensures { OnOk result (found.new.items ≡ found.old.items ++ record { text = text.now; at = at } ∷ []) }
 {
-    found.push(text.clone()?)?;
+    let text = text.clone()?;
+    found.push(Use { text, at })?;
     Ok(())
 }
 
 /// Adds the uses in an expression.
 #[cycle(uses)]
-pub fn in_expr(found: &mut Vec<Name>, e: &Expr) -> Result<(), NoMemory>
+pub fn in_expr(found: &mut Vec<Use>, e: &Expr) -> Result<(), NoMemory>
     ensures { OnOk result (found.new.items ≡ found.old.items ++ spec.in_expr (expr_of e.now)) }
 {
     match e {
@@ -27,7 +29,7 @@ pub fn in_expr(found: &mut Vec<Name>, e: &Expr) -> Result<(), NoMemory>
         | Expr::Null(_)
         | Expr::UniqueCount(_, _)
         | Expr::Post(_, _) => Ok(()),
-        Expr::Unique(text, _) => add(found, text),
+        Expr::Unique(text, at) => add(found, text, *at),
         Expr::Unary(_, a, _) | Expr::Postfix(_, a, _) => in_expr(found, a.get()),
         Expr::Binary(_, a, b, _) | Expr::Assign(_, a, b, _) => {
             in_expr(found, a.get())?;
@@ -67,7 +69,7 @@ pub fn in_expr(found: &mut Vec<Name>, e: &Expr) -> Result<(), NoMemory>
 
 #[cycle(uses)]
 #[tactic(auto, using(crate::proofs::Lists::lists))]
-fn in_list(found: &mut Vec<Name>, list: &List<Expr>) -> Result<(), NoMemory>
+fn in_list(found: &mut Vec<Use>, list: &List<Expr>) -> Result<(), NoMemory>
     ensures { OnOk result (found.new.items ≡ found.old.items ++ spec.in_exprs (exprs_of list.now)) }
 {
     for e in list.as_slice() {
@@ -77,7 +79,7 @@ fn in_list(found: &mut Vec<Name>, list: &List<Expr>) -> Result<(), NoMemory>
 }
 
 #[cycle(uses)]
-fn in_parameter(found: &mut Vec<Name>, param: &Option<Boxed<Expr>>) -> Result<(), NoMemory>
+fn in_parameter(found: &mut Vec<Use>, param: &Option<Boxed<Expr>>) -> Result<(), NoMemory>
     ensures { OnOk result (found.new.items ≡ found.old.items ++ spec.in_maybe (maybe_of param.now)) }
 {
     match param {
@@ -88,7 +90,7 @@ fn in_parameter(found: &mut Vec<Name>, param: &Option<Boxed<Expr>>) -> Result<()
 
 /// Adds the uses in an expression, if there is one.
 #[cycle(uses)]
-pub fn in_value(found: &mut Vec<Name>, value: &Option<Expr>) -> Result<(), NoMemory>
+pub fn in_value(found: &mut Vec<Use>, value: &Option<Expr>) -> Result<(), NoMemory>
     ensures { OnOk result (found.new.items ≡ found.old.items ++ spec.in_maybe (maybe_of value.now)) }
 {
     match value {
@@ -99,7 +101,7 @@ pub fn in_value(found: &mut Vec<Name>, value: &Option<Expr>) -> Result<(), NoMem
 
 /// Adds the uses in a type.
 #[cycle(uses)]
-pub fn in_type(found: &mut Vec<Name>, t: &TypeSpec) -> Result<(), NoMemory>
+pub fn in_type(found: &mut Vec<Use>, t: &TypeSpec) -> Result<(), NoMemory>
     ensures { OnOk result (found.new.items ≡ found.old.items ++ spec.in_type (spec_of t.now)) }
 {
     in_base(found, &t.base)?;
@@ -107,7 +109,7 @@ pub fn in_type(found: &mut Vec<Name>, t: &TypeSpec) -> Result<(), NoMemory>
 }
 
 #[cycle(uses)]
-fn in_base(found: &mut Vec<Name>, base: &Base) -> Result<(), NoMemory>
+fn in_base(found: &mut Vec<Use>, base: &Base) -> Result<(), NoMemory>
     ensures { OnOk result (found.new.items ≡ found.old.items ++ spec.in_base (base_of base.now)) }
 {
     match base {
@@ -125,7 +127,7 @@ fn in_base(found: &mut Vec<Name>, base: &Base) -> Result<(), NoMemory>
 
 #[cycle(uses)]
 #[tactic(auto, using(crate::proofs::Lists::lists))]
-fn in_groups(found: &mut Vec<Name>, groups: &List<FieldGroup>) -> Result<(), NoMemory>
+fn in_groups(found: &mut Vec<Use>, groups: &List<FieldGroup>) -> Result<(), NoMemory>
     ensures { OnOk result (found.new.items ≡ found.old.items ++ spec.in_groups (groups_of groups.now)) }
 {
     for group in groups.as_slice() {
@@ -135,7 +137,7 @@ fn in_groups(found: &mut Vec<Name>, groups: &List<FieldGroup>) -> Result<(), NoM
 }
 
 #[cycle(uses)]
-fn in_group(found: &mut Vec<Name>, group: &FieldGroup) -> Result<(), NoMemory>
+fn in_group(found: &mut Vec<Use>, group: &FieldGroup) -> Result<(), NoMemory>
     ensures { OnOk result (found.new.items ≡ found.old.items ++ (spec.in_type (group_of group.now).0 ++ spec.in_names (group_of group.now).1)) }
 {
     in_type(found, &group.ty)?;
@@ -144,7 +146,7 @@ fn in_group(found: &mut Vec<Name>, group: &FieldGroup) -> Result<(), NoMemory>
 
 #[cycle(uses)]
 #[tactic(auto, using(crate::proofs::Lists::lists))]
-fn in_names(found: &mut Vec<Name>, names: &List<Declarator>) -> Result<(), NoMemory>
+fn in_names(found: &mut Vec<Use>, names: &List<Declarator>) -> Result<(), NoMemory>
     ensures { OnOk result (found.new.items ≡ found.old.items ++ spec.in_names (declarators_of names.now)) }
 {
     for declarator in names.as_slice() {
@@ -155,7 +157,7 @@ fn in_names(found: &mut Vec<Name>, names: &List<Declarator>) -> Result<(), NoMem
 
 /// Adds the uses in the dimensions of an array.
 #[cycle(uses)]
-pub fn in_declarator(found: &mut Vec<Name>, declarator: &Declarator) -> Result<(), NoMemory>
+pub fn in_declarator(found: &mut Vec<Use>, declarator: &Declarator) -> Result<(), NoMemory>
     ensures { OnOk result (found.new.items ≡ found.old.items ++ spec.in_exprs (declarator_of declarator.now).2) }
 {
     in_list(found, &declarator.dims)
@@ -163,7 +165,7 @@ pub fn in_declarator(found: &mut Vec<Name>, declarator: &Declarator) -> Result<(
 
 #[cycle(uses)]
 #[tactic(auto, using(crate::proofs::Lists::lists))]
-fn in_items(found: &mut Vec<Name>, items: &List<EnumItem>) -> Result<(), NoMemory>
+fn in_items(found: &mut Vec<Use>, items: &List<EnumItem>) -> Result<(), NoMemory>
     ensures { OnOk result (found.new.items ≡ found.old.items ++ spec.in_items (items_of items.now)) }
 {
     for item in items.as_slice() {

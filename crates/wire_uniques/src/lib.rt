@@ -9,6 +9,8 @@ mod part;
 mod place;
 mod rows;
 mod statements;
+mod used;
 
 pub use all_uses::{Uniques, number_uses};
 pub use rows::worked_rows;
+pub use used::Use;

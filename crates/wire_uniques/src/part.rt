@@ -7,11 +7,12 @@ ghost use Rattle.wire_uniques.specs.Statements.{in_decls};
 use crate::expressions::{in_expr, in_type, in_value};
 use crate::place::begins_before;
 use crate::statements::in_decl;
+use crate::used::Use;
 use nesc_tree::{ConfLine, Decl, Elem, GenericArg, GenericParam, Head, Part, TypeSpec, WireEnd};
-use nm_base::{List, Name, NoMemory};
+use nm_base::{List, NoMemory};
 
 #[tactic(auto, using(crate::proofs::Parts::parts))]
-fn in_specs(found: &mut Vec<Name>, specs: &List<TypeSpec>) -> Result<(), NoMemory>
+fn in_specs(found: &mut Vec<Use>, specs: &List<TypeSpec>) -> Result<(), NoMemory>
     ensures { OnOk result (found.new.items ≡ found.old.items ++ spec.in_specs specs.now) }
 {
     for t in specs.as_slice() {
@@ -20,7 +21,7 @@ fn in_specs(found: &mut Vec<Name>, specs: &List<TypeSpec>) -> Result<(), NoMemor
     Ok(())
 }
 
-fn in_some(found: &mut Vec<Name>, t: &Option<TypeSpec>) -> Result<(), NoMemory>
+fn in_some(found: &mut Vec<Use>, t: &Option<TypeSpec>) -> Result<(), NoMemory>
     ensures { OnOk result (found.new.items ≡ found.old.items ++ spec.in_some t.now) }
 {
     match t {
@@ -29,7 +30,7 @@ fn in_some(found: &mut Vec<Name>, t: &Option<TypeSpec>) -> Result<(), NoMemory>
     }
 }
 
-fn in_elem(found: &mut Vec<Name>, elem: &Elem) -> Result<(), NoMemory>
+fn in_elem(found: &mut Vec<Use>, elem: &Elem) -> Result<(), NoMemory>
     ensures { OnOk result (found.new.items ≡ found.old.items ++ spec.in_elem elem.now) }
 {
     in_specs(found, &elem.args)?;
@@ -37,7 +38,7 @@ fn in_elem(found: &mut Vec<Name>, elem: &Elem) -> Result<(), NoMemory>
 }
 
 #[tactic(auto, using(crate::proofs::Parts::parts))]
-fn in_elems(found: &mut Vec<Name>, elems: &List<Elem>) -> Result<(), NoMemory>
+fn in_elems(found: &mut Vec<Use>, elems: &List<Elem>) -> Result<(), NoMemory>
     ensures { OnOk result (found.new.items ≡ found.old.items ++ spec.in_elems elems.now) }
 {
     for elem in elems.as_slice() {
@@ -47,7 +48,7 @@ fn in_elems(found: &mut Vec<Name>, elems: &List<Elem>) -> Result<(), NoMemory>
 }
 
 #[tactic(auto, using(crate::proofs::Parts::parts))]
-fn in_params(found: &mut Vec<Name>, params: &List<GenericParam>) -> Result<(), NoMemory>
+fn in_params(found: &mut Vec<Use>, params: &List<GenericParam>) -> Result<(), NoMemory>
     ensures { OnOk result (found.new.items ≡ found.old.items ++ spec.in_params params.now) }
 {
     for param in params.as_slice() {
@@ -56,7 +57,7 @@ fn in_params(found: &mut Vec<Name>, params: &List<GenericParam>) -> Result<(), N
     Ok(())
 }
 
-fn in_generic(found: &mut Vec<Name>, params: &Option<List<GenericParam>>) -> Result<(), NoMemory>
+fn in_generic(found: &mut Vec<Use>, params: &Option<List<GenericParam>>) -> Result<(), NoMemory>
     ensures { OnOk result (found.new.items ≡ found.old.items ++ spec.in_generic params.now) }
 {
     match params {
@@ -65,14 +66,14 @@ fn in_generic(found: &mut Vec<Name>, params: &Option<List<GenericParam>>) -> Res
     }
 }
 
-fn in_head(found: &mut Vec<Name>, head: &Head) -> Result<(), NoMemory>
+fn in_head(found: &mut Vec<Use>, head: &Head) -> Result<(), NoMemory>
     ensures { OnOk result (found.new.items ≡ found.old.items ++ spec.in_head head.now) }
 {
     in_generic(found, &head.generic)?;
     in_elems(found, &head.elems)
 }
 
-fn in_garg(found: &mut Vec<Name>, arg: &GenericArg) -> Result<(), NoMemory>
+fn in_garg(found: &mut Vec<Use>, arg: &GenericArg) -> Result<(), NoMemory>
     ensures { OnOk result (found.new.items ≡ found.old.items ++ spec.in_garg arg.now) }
 {
     match arg {
@@ -82,7 +83,7 @@ fn in_garg(found: &mut Vec<Name>, arg: &GenericArg) -> Result<(), NoMemory>
 }
 
 #[tactic(auto, using(crate::proofs::Parts::parts))]
-fn in_gargs(found: &mut Vec<Name>, args: &List<GenericArg>) -> Result<(), NoMemory>
+fn in_gargs(found: &mut Vec<Use>, args: &List<GenericArg>) -> Result<(), NoMemory>
     ensures { OnOk result (found.new.items ≡ found.old.items ++ spec.in_gargs args.now) }
 {
     for arg in args.as_slice() {
@@ -91,7 +92,7 @@ fn in_gargs(found: &mut Vec<Name>, args: &List<GenericArg>) -> Result<(), NoMemo
     Ok(())
 }
 
-fn in_new(found: &mut Vec<Name>, args: &Option<List<GenericArg>>) -> Result<(), NoMemory>
+fn in_new(found: &mut Vec<Use>, args: &Option<List<GenericArg>>) -> Result<(), NoMemory>
     ensures { OnOk result (found.new.items ≡ found.old.items ++ spec.in_new args.now) }
 {
     match args {
@@ -100,14 +101,14 @@ fn in_new(found: &mut Vec<Name>, args: &Option<List<GenericArg>>) -> Result<(), 
     }
 }
 
-fn in_ends(found: &mut Vec<Name>, first: &WireEnd, second: &WireEnd) -> Result<(), NoMemory>
+fn in_ends(found: &mut Vec<Use>, first: &WireEnd, second: &WireEnd) -> Result<(), NoMemory>
     ensures { OnOk result (found.new.items ≡ found.old.items ++ (spec.in_end first.now ++ spec.in_end second.now)) }
 {
     in_value(found, &first.param)?;
     in_value(found, &second.param)
 }
 
-fn in_link(found: &mut Vec<Name>, from: &WireEnd, to: &WireEnd) -> Result<(), NoMemory>
+fn in_link(found: &mut Vec<Use>, from: &WireEnd, to: &WireEnd) -> Result<(), NoMemory>
     ensures { OnOk result (found.new.items ≡ found.old.items ++ spec.in_link from.now to.now) }
 {
     if begins_before(&to.param, &from.param) {
@@ -117,7 +118,7 @@ fn in_link(found: &mut Vec<Name>, from: &WireEnd, to: &WireEnd) -> Result<(), No
     }
 }
 
-fn in_line(found: &mut Vec<Name>, line: &ConfLine) -> Result<(), NoMemory>
+fn in_line(found: &mut Vec<Use>, line: &ConfLine) -> Result<(), NoMemory>
     ensures { OnOk result (found.new.items ≡ found.old.items ++ spec.in_line line.now) }
 {
     match line {
@@ -129,7 +130,7 @@ fn in_line(found: &mut Vec<Name>, line: &ConfLine) -> Result<(), NoMemory>
 }
 
 #[tactic(auto, using(crate::proofs::Parts::parts))]
-fn in_lines(found: &mut Vec<Name>, lines: &List<ConfLine>) -> Result<(), NoMemory>
+fn in_lines(found: &mut Vec<Use>, lines: &List<ConfLine>) -> Result<(), NoMemory>
     ensures { OnOk result (found.new.items ≡ found.old.items ++ spec.in_lines lines.now) }
 {
     for line in lines.as_slice() {
@@ -140,7 +141,7 @@ fn in_lines(found: &mut Vec<Name>, lines: &List<ConfLine>) -> Result<(), NoMemor
 
 /// Adds the uses in declarations.
 #[tactic(auto, using(crate::proofs::Parts::parts))]
-pub fn in_decls(found: &mut Vec<Name>, decls: &List<Decl>) -> Result<(), NoMemory>
+pub fn in_decls(found: &mut Vec<Use>, decls: &List<Decl>) -> Result<(), NoMemory>
     ensures { OnOk result (found.new.items ≡ found.old.items ++ in_decls decls.now) }
 {
     for decl in decls.as_slice() {
@@ -150,7 +151,7 @@ pub fn in_decls(found: &mut Vec<Name>, decls: &List<Decl>) -> Result<(), NoMemor
 }
 
 /// Adds the uses in a component; an interface and a header have none of their own.
-pub fn in_part(found: &mut Vec<Name>, part: &Part) -> Result<(), NoMemory>
+pub fn in_part(found: &mut Vec<Use>, part: &Part) -> Result<(), NoMemory>
     ensures { OnOk result (found.new.items ≡ found.old.items ++ spec.in_part part.now) }
 {
     match part {

@@ -5,12 +5,13 @@ ghost use Rattle.wire_uniques.specs.Statements as spec;
 
 use crate::declarations::{in_head, in_vars};
 use crate::expressions::{in_expr, in_type, in_value};
+use crate::used::Use;
 use nesc_tree::{Decl, ForStart, Stmt};
-use nm_base::{Boxed, List, Name, NoMemory};
+use nm_base::{Boxed, List, NoMemory};
 
 /// Adds the uses in a declaration.
 #[cycle(statements)]
-pub fn in_decl(found: &mut Vec<Name>, decl: &Decl) -> Result<(), NoMemory>
+pub fn in_decl(found: &mut Vec<Use>, decl: &Decl) -> Result<(), NoMemory>
     ensures { OnOk result (found.new.items ≡ found.old.items ++ spec.in_decl decl.now) }
 {
     match decl {
@@ -25,7 +26,7 @@ pub fn in_decl(found: &mut Vec<Name>, decl: &Decl) -> Result<(), NoMemory>
 }
 
 #[cycle(statements)]
-fn in_body(found: &mut Vec<Name>, body: &Option<Stmt>) -> Result<(), NoMemory>
+fn in_body(found: &mut Vec<Use>, body: &Option<Stmt>) -> Result<(), NoMemory>
     ensures { OnOk result (found.new.items ≡ found.old.items ++ spec.or_none (option_map spec.in_stmt body.now)) }
 {
     match body {
@@ -35,7 +36,7 @@ fn in_body(found: &mut Vec<Name>, body: &Option<Stmt>) -> Result<(), NoMemory>
 }
 
 #[cycle(statements)]
-fn in_else(found: &mut Vec<Name>, branch: &Option<Boxed<Stmt>>) -> Result<(), NoMemory>
+fn in_else(found: &mut Vec<Use>, branch: &Option<Boxed<Stmt>>) -> Result<(), NoMemory>
     ensures { OnOk result (found.new.items ≡ found.old.items ++ spec.or_none (option_map spec.in_stmt branch.now)) }
 {
     match branch {
@@ -44,7 +45,7 @@ fn in_else(found: &mut Vec<Name>, branch: &Option<Boxed<Stmt>>) -> Result<(), No
     }
 }
 
-fn in_start(found: &mut Vec<Name>, start: &ForStart) -> Result<(), NoMemory>
+fn in_start(found: &mut Vec<Use>, start: &ForStart) -> Result<(), NoMemory>
     ensures { OnOk result (found.new.items ≡ found.old.items ++ spec.in_start start.now) }
 {
     match start {
@@ -56,7 +57,7 @@ fn in_start(found: &mut Vec<Name>, start: &ForStart) -> Result<(), NoMemory>
 
 #[cycle(statements)]
 #[tactic(auto, using(crate::proofs::Parts::parts))]
-fn in_stmts(found: &mut Vec<Name>, stmts: &List<Stmt>) -> Result<(), NoMemory>
+fn in_stmts(found: &mut Vec<Use>, stmts: &List<Stmt>) -> Result<(), NoMemory>
     ensures { OnOk result (found.new.items ≡ found.old.items ++ spec.in_stmts stmts.now) }
 {
     for stmt in stmts.as_slice() {
@@ -66,7 +67,7 @@ fn in_stmts(found: &mut Vec<Name>, stmts: &List<Stmt>) -> Result<(), NoMemory>
 }
 
 #[cycle(statements)]
-fn in_stmt(found: &mut Vec<Name>, stmt: &Stmt) -> Result<(), NoMemory>
+fn in_stmt(found: &mut Vec<Use>, stmt: &Stmt) -> Result<(), NoMemory>
     ensures { OnOk result (found.new.items ≡ found.old.items ++ spec.in_stmt stmt.now) }
 {
     match stmt {

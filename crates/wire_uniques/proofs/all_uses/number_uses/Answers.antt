@@ -1,5 +1,5 @@
 use Rattle.std.proofs.Common.{◌≡◌, ◌++◌, [], List, subst, ◌∙◌}
-use Rattle.wire_uniques.specs.Expressions.{Texts}
+use Rattle.wire_uniques.specs.Expressions.{Uses}
 use Rattle.wire_uniques.specs.Numbers.{AreNumbers}
 use Rattle.wire_uniques.specs.Parts.{in_headers, in_instances, parts_of}
 use Rattle.wire_uniques.proofs.all_uses.number_uses.Goals as goal
@@ -12,8 +12,8 @@ returns-clause-numbers c =
     let p : c.as_slice-2.result.now ≡ parts_of units = c.as_slice-2.ensures.value ∙ c.in_ok-parts.ensures in
     let first = c.in_ok-take_all.ensures.numbered [] c.new-counter.ensures in
     let all = c.in_ok-starts.ensures.numbered ([] ++ c.as_slice.result.now) first in
-    let headed : AreNumbers c.count_instances.new.counter.counts c.count_instances.new.counter.numbers.items (in_headers units ++ in_instances c.as_slice-2.result.now made) = subst (λ (ts : Texts). AreNumbers c.count_instances.new.counter.counts c.count_instances.new.counter.numbers.items (ts ++ in_instances c.as_slice-2.result.now made)) h all in
-    (subst (λ (ps : List Texts). AreNumbers c.count_instances.new.counter.counts c.count_instances.new.counter.numbers.items (in_headers units ++ in_instances ps made)) p headed).given
+    let headed : AreNumbers c.count_instances.new.counter.counts c.count_instances.new.counter.numbers.items (in_headers units ++ in_instances c.as_slice-2.result.now made) = subst (λ (ts : Uses). AreNumbers c.count_instances.new.counter.counts c.count_instances.new.counter.numbers.items (ts ++ in_instances c.as_slice-2.result.now made)) h all in
+    (subst (λ (ps : List Uses). AreNumbers c.count_instances.new.counter.counts c.count_instances.new.counter.numbers.items (in_headers units ++ in_instances ps made)) p headed).given
 
 pub returns-clause-counts : goal.returns-clause-counts
 returns-clause-counts c =
@@ -23,5 +23,5 @@ returns-clause-counts c =
     let p : c.as_slice-2.result.now ≡ parts_of units = c.as_slice-2.ensures.value ∙ c.in_ok-parts.ensures in
     let first = c.in_ok-take_all.ensures.numbered [] c.new-counter.ensures in
     let all = c.in_ok-starts.ensures.numbered ([] ++ c.as_slice.result.now) first in
-    let headed : AreNumbers c.count_instances.new.counter.counts c.count_instances.new.counter.numbers.items (in_headers units ++ in_instances c.as_slice-2.result.now made) = subst (λ (ts : Texts). AreNumbers c.count_instances.new.counter.counts c.count_instances.new.counter.numbers.items (ts ++ in_instances c.as_slice-2.result.now made)) h all in
-    (subst (λ (ps : List Texts). AreNumbers c.count_instances.new.counter.counts c.count_instances.new.counter.numbers.items (in_headers units ++ in_instances ps made)) p headed).counted
+    let headed : AreNumbers c.count_instances.new.counter.counts c.count_instances.new.counter.numbers.items (in_headers units ++ in_instances c.as_slice-2.result.now made) = subst (λ (ts : Uses). AreNumbers c.count_instances.new.counter.counts c.count_instances.new.counter.numbers.items (ts ++ in_instances c.as_slice-2.result.now made)) h all in
+    (subst (λ (ps : List Uses). AreNumbers c.count_instances.new.counter.counts c.count_instances.new.counter.numbers.items (in_headers units ++ in_instances ps made)) p headed).counted

@@ -8,6 +8,6 @@ pub returns-clause-numbered : goal.returns-clause-numbered
 returns-clause-numbered c = λ uses h.
     let n = c.count-count.result in
     let more : c.in-Some.more ≡ n + 1 = search rules in
-    let set : (other : List ℕ) → place_of c.set.new.self other ≡ cond (bytes_eq other c.args.text.now) (Some (n + 1)) (place_of c.args.self.now.counts other) = rw more at c.in_ok-set.ensures.set in
+    let set : (other : List ℕ) → place_of c.set.new.self other ≡ cond (bytes_eq other c.args.one.now.text) (Some (n + 1)) (place_of c.args.self.now.counts other) = rw more at c.in_ok-set.ensures.set in
     let pushed : c.push.new.self.items ≡ c.args.self.now.numbers.items ++ n ∷ [] = c.in_ok-push.ensures.items in
-    one_more c.args.self.now.counts c.set.new.self c.args.self.now.numbers.items c.push.new.self.items uses c.args.text.now n c.count-count.ensures set pushed h
+    one_more c.args.self.now.counts c.set.new.self c.args.self.now.numbers.items c.push.new.self.items uses c.args.one.now n c.count-count.ensures set pushed h
