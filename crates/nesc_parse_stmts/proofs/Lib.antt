@@ -1,0 +1,5 @@
+pub mod Guards
+pub mod Items
+pub mod Cases
+pub mod Levels
+pub mod Loops
