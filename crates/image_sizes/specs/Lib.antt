@@ -1,0 +1,2 @@
+pub mod StackWeight
+pub mod Laws

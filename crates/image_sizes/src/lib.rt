@@ -1,0 +1,6 @@
+//! What the image of a program takes of the memory, beside the program's weights.
+#![tactic(auto)]
+
+mod laws;
+
+pub use laws::{data_is_within_weight, memory_is_within_weights, stack_is_within_weight};
