@@ -3,8 +3,6 @@
 
 mod pieces;
 mod put;
-#[cfg(test)]
-mod tests;
 
 pub use msp_isa::{CodeFn, Item};
 pub use pieces::{PieceKind, handler_code, piece, reset_code};
