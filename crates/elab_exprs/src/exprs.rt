@@ -7,7 +7,7 @@ ghost use Rattle.elab_meaning.specs.Answers.{Gives};
 ghost use Rattle.elab_meaning.specs.Wired as spec;
 ghost use Rattle.elab_meaning.specs.View.{env_of, found_of, state_of, typed_of};
 
-use crate::walk;
+use crate::{constants, types, walk};
 use elab_forms::Told;
 use elab_meaning::{Found, Typed, Work};
 use nesc_core::CoreType;
@@ -37,7 +37,7 @@ pub fn value(alloc: Global, told: &Told, work: &mut Work, e: &Expr) -> Result<Ty
 pub fn constant(alloc: Global, told: &Told, work: &mut Work, e: &Expr) -> Result<Constant, Fault>
     ensures { Gives (λ x. x) result (state_of work.new) (spec.whole_constant (env_of told.now.env) told.now.values (expr_of e.now) (state_of work.old)) }
 {
-    walk::constant_in(alloc, told, work, e, pos_of(e), true)
+    constants::constant_in(alloc, told, work, e, pos_of(e), true)
 }
 
 /// The type that is written, whose declaration stands at a place.
@@ -51,5 +51,5 @@ pub fn type_of(
 ) -> Result<CoreType, Fault>
     ensures { Gives core_type_of result (state_of work.new) (spec.type_of (env_of told.now.env) told.now.values at (spec_of t.now) (state_of work.old)) }
 {
-    walk::type_of(alloc, told, work, t, at)
+    types::type_of(alloc, told, work, t, at)
 }
