@@ -4,6 +4,8 @@
 mod laws;
 mod opener;
 mod reading;
+#[cfg(test)]
+mod tests;
 mod waiting;
 
 pub use laws::{one_reading, worked_rows};
