@@ -1,0 +1,4 @@
+pub mod Told
+pub mod FromPlace
+pub mod Refusals
+pub mod Stands
