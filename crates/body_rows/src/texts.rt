@@ -46,12 +46,7 @@ fn around(out: &mut Vec<u8>, before: &[u8], inner: &Stmt, levels: u32) -> Result
 }
 
 #[cycle(texts)]
-fn choice_text(
-    out: &mut Vec<u8>,
-    then: &Stmt,
-    other: &Stmt,
-    levels: u32,
-) -> Result<(), NoMemory> {
+fn choice_text(out: &mut Vec<u8>, then: &Stmt, other: &Stmt, levels: u32) -> Result<(), NoMemory> {
     put(out, b"if(")?;
     stmt_text(out, then, levels)?;
     around(out, b" else ", other, levels)

@@ -6,4 +6,3 @@ mod stepped;
 mod trace_line;
 
 pub use mote::{AsMote, BoardMote, MoteOf};
-

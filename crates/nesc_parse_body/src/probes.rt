@@ -33,11 +33,7 @@ fn is_ended<T: Drop>(found: Found<'_, T>) -> Result<bool, NoMemory>
 }
 
 /// Whether reading these tokens comes to the last of them.
-fn reads_all(
-    alloc: Global,
-    names: &mut TypeNames,
-    ts: &[Token],
-) -> Result<bool, NoMemory>
+fn reads_all(alloc: Global, names: &mut TypeNames, ts: &[Token]) -> Result<bool, NoMemory>
     ensures told { IfOk result (λ b. b ≡ is_ended (read_of names.old ts.now)) }
     ensures back { names.new ≡ names.old }
 {

@@ -14,4 +14,3 @@ pub use laws::one_answer;
 pub use mode::Mode;
 pub use rows::worked_rows;
 pub use texts::{HELP, VERSION};
-
