@@ -1,5 +1,6 @@
 -- The code round compiled bodies (own): of a line's handler, of an atomic statement, of sleep, and from reset on.
 use Rattle.std.specs.Prelude.{ℕ, false, negsuc, List, [], ◌∷◌, ◌++◌, map, Option, Some, None}
+use Rattle.nm_base.specs.declared.memory_map.TheConstants.{RAM_END}
 use Rattle.msp_isa.specs.declared.code.CodeFn.{CodeFn}
 use Rattle.msp_isa.specs.declared.code.Item.{Item}
 use Rattle.msp_isa.specs.declared.code.Item.TheVariants.{Is, CallFn}
@@ -83,7 +84,7 @@ handler_of body = whole (line_frame body) (functions body) (map Is entry ++ (map
 -- time it is woken
 abbrev pub reset_of : ℕ → CodeFn
 reset_of boot = whole 0 (boot ∷ []) (
-    Is (Two Mov false (Immediate 0x3900) (Reg 1))
+    Is (Two Mov false (Immediate RAM_END) (Reg 1))
     ∷ Is open_gate
     ∷ CallFn boot
     ∷ (map Is sleep ++ Is (Jump Jmp (negsuc 2)) ∷ [])

@@ -6,7 +6,7 @@ ghost use Rattle.msp_isa.specs.declared.code.Item.TheVariants as item;
 
 use crate::put::{SP, put, put_begin, put_end, put_entry, put_exit, put_open, put_sleep};
 use msp_isa::{CodeFn, Cond, Instr, Item, Op2, Operand};
-use nm_base::{List, NoMemory};
+use nm_base::{List, NoMemory, RAM_END};
 use std::alloc::Global;
 
 /// A piece of code that stands round a body or in it: the entry of a line and the exit of every line; begin and end of an atomic
@@ -28,9 +28,6 @@ const ACCEPTANCE: u16 = 4;
 
 /// How many registers entry pushes.
 const SAVED: u16 = 12;
-
-/// The address behind RAM.
-const TOP: u16 = 0x3900;
 
 fn put_piece(items: &mut Vec<Item>, kind: PieceKind) -> Result<(), NoMemory>
     ensures { OnOk result (items.new.items ≡ items.old.items ++ (piece_of kind).items) }
@@ -118,7 +115,7 @@ pub fn reset_code(alloc: Global, boot: u32) -> Result<CodeFn, NoMemory>
     let mut items = Vec::new(alloc);
     put(
         &mut items,
-        Instr::Two(Op2::Mov, false, Operand::Immediate(TOP), Operand::Reg(SP)),
+        Instr::Two(Op2::Mov, false, Operand::Immediate(RAM_END), Operand::Reg(SP)),
     )?;
     put_open(&mut items)?;
     put_call(&mut items, Some(boot))?;

@@ -2,6 +2,7 @@
 -- without tasks.
 use Rattle.std.specs.Prelude.{◌≡◌, ℕ, ◌+◌, ◌-◌, ◌*◌, ◌<◌, ◌≤◌, List, Option, Some, None}
 use Rattle.std.specs.Option.{option_map}
+use Rattle.nm_base.specs.declared.memory_map.TheConstants.{RAM_END, RAM_START, VECTORS}
 use Rattle.nm_base.specs.declared.action.Action.{Action}
 use Rattle.mote_devices.specs.declared.state.BoardState.{BoardState}
 use Rattle.mote_devices.specs.WordBoards.{AreWordRows, IsWordBoard, IsWordGiven}
@@ -54,15 +55,15 @@ module _ (s : Chosen) (image : ℕ → ℕ) (z : Sizes) where
 
   pub record IsCompiledLine (v : ℕ) (handler : Option ℕ) : Type 0 where
     pub entry : ℕ
-    pub stands : word_in image (0xFFE0 + 2 * v) ≡ entry
+    pub stands : word_in image (VECTORS + 2 * v) ≡ entry
     pub word : entry < 0x10000
     pub code : IsLine image s.marks (even entry) (option_map s.entries handler)
     pub handled : IsHandled handler
 
   pub record IsCompiled (boot : ℕ) (handler : ℕ → Option ℕ) : Type 0 where
-    pub low_end : 0x1100 ≤ z.data_end
+    pub low_end : RAM_START ≤ z.data_end
     pub even_end : even z.data_end ≡ z.data_end
-    pub room : z.data_end + stack_of z ≤ 0x3900
+    pub room : z.data_end + stack_of z ≤ RAM_END
     -- entry and exit take 26 bytes of stack and 28 instructions
     pub least_depth : 26 ≤ z.handler_depth
     pub least_bound : 29 ≤ z.bound
@@ -79,4 +80,4 @@ abbrev pub CompiledImagesRun : Type 0
 CompiledImagesRun =
     (s : Chosen) (image : ℕ → ℕ) (z : Sizes) (boot : ℕ) (handler : ℕ → Option ℕ) (b : BoardState) (rows : List Due) (pace n : ℕ) →
     IsCompiled s image z boot handler → IsWordBoard b → AreWordRows IsWordGiven rows → z.bound + 3 ≤ pace →
-    Allowed (source_of s.code boot handler) pace b (mote image b rows) n × (0x3900 ≤ (mote image b rows n).least + stack_of z)
+    Allowed (source_of s.code boot handler) pace b (mote image b rows) n × (RAM_END ≤ (mote image b rows n).least + stack_of z)

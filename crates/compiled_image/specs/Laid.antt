@@ -1,5 +1,6 @@
 -- Functions as selection writes them and the pieces, laid out together (own).
 use Rattle.std.specs.Prelude.{◌≡◌, ℕ, ◌+◌, ◌*◌, ◌<◌, ◌≤◌, List, length, Option}
+use Rattle.nm_base.specs.declared.memory_map.TheConstants.{RAM_END, RAM_START, VECTORS}
 use Rattle.mote_devices.specs.declared.state.BoardState.{BoardState}
 use Rattle.mote_devices.specs.WordBoards.{AreWordRows, IsWordBoard, IsWordGiven}
 use Rattle.mote_devices.specs.declared.shown.Due.{Due}
@@ -31,7 +32,7 @@ module _ (c : MidCode) (homes : ℕ → ℕ → Home) (own deep : ℕ → ℕ) (
     pub is : f < length code
     pub behind : length c.fns ≤ f
     pub items : items_of code f ≡ (handler_of handler).items
-    pub vector : word_in image (0xFFE0 + 2 * v) ≡ entries f
+    pub vector : word_in image (VECTORS + 2 * v) ≡ entries f
 
   pub record IsProgram (boot : ℕ) (handler : ℕ → Option ℕ) : Type 0 where
     pub form : IsMidCode c
@@ -40,9 +41,9 @@ module _ (c : MidCode) (homes : ℕ → ℕ → Home) (own deep : ℕ → ℕ) (
     pub items : (f : ℕ) → f < length c.fns → items_of code f ≡ items_of_parts (parts c homes own f)
     pub even_entry : (f : ℕ) → f < length c.fns → even (entries f) ≡ entries f
     pub small_entry : (f : ℕ) → f < length c.fns → entries f < 0x10000
-    pub low_end : 0x1100 ≤ z.data_end
+    pub low_end : RAM_START ≤ z.data_end
     pub even_end : even z.data_end ≡ z.data_end
-    pub room : z.data_end + stack_of z ≤ 0x3900
+    pub room : z.data_end + stack_of z ≤ RAM_END
     pub least_depth : 26 ≤ z.handler_depth
     pub least_bound : 29 ≤ z.bound
     pub reset : ℕ
@@ -61,4 +62,4 @@ LaidProgramsRun =
     (c : MidCode) (homes : ℕ → ℕ → Home) (own deep : ℕ → ℕ) (image : ℕ → ℕ) (z : Sizes) (code : List CodeFn) (entries : ℕ → ℕ) (laid : IsLaid image code entries)
     (boot : ℕ) (handler : ℕ → Option ℕ) (b : BoardState) (rows : List Due) (pace n : ℕ) →
     IsProgram c homes own deep image z code entries laid boot handler → IsWordBoard b → AreWordRows IsWordGiven rows → z.bound + 3 ≤ pace →
-    Allowed (source_of c boot handler) pace b (mote image b rows) n × (0x3900 ≤ (mote image b rows n).least + stack_of z)
+    Allowed (source_of c boot handler) pace b (mote image b rows) n × (RAM_END ≤ (mote image b rows n).least + stack_of z)

@@ -1,5 +1,6 @@
 -- What is promised of the code of programs (own).
 use Rattle.std.specs.Prelude.{◌≡◌, ℕ, ◌+◌, ◌≤◌, List, []}
+use Rattle.nm_base.specs.declared.memory_map.TheConstants.{RAM_END}
 use Rattle.mote_devices.specs.declared.state.BoardState.{BoardState}
 use Rattle.mote_devices.specs.WordBoards.{AreWordRows, IsWordBoard, IsWordGiven}
 use Rattle.mote_devices.specs.declared.shown.Due.{Due}
@@ -42,7 +43,7 @@ CodeCanBeLaid = (p : Program) → IsCompilable p → IsCountable (code_of p) →
 abbrev pub RunsProgram : Program → (words vectors : List ℕ) → (stack : ℕ) → Type 0
 RunsProgram p words vectors stack =
     (b : BoardState) (rows : List Due) (n : ℕ) → IsWordBoard b → AreWordRows IsWordGiven rows →
-    Allowed (source_of p) (pace_of_program p) b (mote (image_map words vectors) b rows) n × (0x3900 ≤ (mote (image_map words vectors) b rows n).least + stack)
+    Allowed (source_of p) (pace_of_program p) b (mote (image_map words vectors) b rows) n × (RAM_END ≤ (mote (image_map words vectors) b rows n).least + stack)
 
 -- Where the code is laid out and data and stack fit the memory, the mote does what the program does
 abbrev pub LaidCodeRuns : Type 0

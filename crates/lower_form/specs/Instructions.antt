@@ -1,6 +1,7 @@
 -- What holds of each instruction of lowered code, wherever the machine is (own).
 use Rattle.std.specs.Prelude.{◌≡◌, ℕ, ◌+◌, ◌*◌, ◌%◌, ◌^◌, ◌<◌, ◌≤◌, length}
 use Rattle.std.specs.List.{All}
+use Rattle.nm_base.specs.declared.memory_map.TheConstants.{RAM_BYTES}
 use Rattle.nesc_core.specs.Plain.{Program}
 use Rattle.nesc_core.specs.WellFormed.{IsWellFormed}
 use Rattle.mid_code.specs.declared.instr.Mid.{Mid}
@@ -25,7 +26,7 @@ InstructionsAreSound = (p : Program) → IsWellFormed p → All (λ fn. All (IsS
 
 -- frames of a size that can be addressed, and numbers for the functions, 48 operations and the checks
 pub record IsSmallCode (c : MidCode) : Type 0 where
-  pub frames : All (λ (fn : MidFn). fn.frame + 2 * fn.values ≤ 10240) c.fns
+  pub frames : All (λ (fn : MidFn). fn.frame + 2 * fn.values ≤ RAM_BYTES) c.fns
   pub places : length c.fns + (48 + length c.checks) < 2 ^ 32
 
 abbrev pub CodeIsSmall : Type 0

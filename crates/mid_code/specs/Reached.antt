@@ -1,6 +1,7 @@
 -- The rules that middle code keeps in each state that the machine reaches from the start of a function without parameters (own).
 use Rattle.std.specs.Prelude.{◌≡◌, ℕ, zero, suc, ◌+◌, ◌/◌, ◌%◌, ◌^◌, ◌<◌, ◌≤◌, ◌⊎◌, Bool, true, false, if◌then◌else◌, List, [], ◌∷◌, map, length, Option, Some, None, Contains, drop}
 use Rattle.std.specs.List.{All}
+use Rattle.nm_base.specs.declared.memory_map.TheConstants.{RAM_START}
 use Rattle.nm_base.specs.declared.int_type.IntType.{IntType}
 use Rattle.mid_code.specs.declared.help.HelpOp.{HelpOp}
 use Rattle.mid_code.specs.declared.help.HelpOp.TheVariants.{Div, Rem}
@@ -64,7 +65,7 @@ LastIs o (last ∷ others) = last ≡ o
 
 -- where data lies
 abbrev pub IsData : (is_word : Bool) → ℕ → Type 0
-IsData is_word x = (0x1100 ≤ x) × IsAligned is_word x
+IsData is_word x = (RAM_START ≤ x) × IsAligned is_word x
 
 -- ENABLE, PENDING, or a word port of a device
 abbrev pub IsPort : ℕ → Type 0

@@ -2,6 +2,7 @@
 use Rattle.std.specs.Prelude.{◌≡◌, ℕ, ◌+◌, ◌==◌, Bool, true, false, ◌&&◌, nat_lt, nat_le, if◌then◌else◌, List, [], ◌∷◌, length, Option, Some, None, Result, Ok, is_none}
 use Rattle.std.specs.Option.{option_map, option_and_then, unwrap_or}
 use Rattle.std.specs.Str.Lines.{lines}
+use Rattle.nm_base.specs.declared.memory_map.TheConstants.{CODE_START}
 use Rattle.msp_isa.specs.Image.{IsImage, image_map}
 use Rattle.mote_text.specs.ImageText.{image_text}
 use Rattle.mote_text.specs.Lines.{numeral, read_lines}
@@ -17,7 +18,7 @@ pub data ImageLine : Type 0 where
 -- 1 to 8 hexadecimal digits, from 0x4000 to 0xFFFF
 abbrev pub section_address : List ℕ → Option ℕ
 section_address digits =
-    if nat_le (length digits) 8 then option_and_then (λ a. if nat_le 0x4000 a then Some a else None) (numeral 16 0xFFFF digits) else None
+    if nat_le (length digits) 8 then option_and_then (λ a. if nat_le CODE_START a then Some a else None) (numeral 16 0xFFFF digits) else None
 
 -- a byte has two hexadecimal digits; a space stands behind each, and may be left out behind the last
 unfoldable pub spaced_bytes : List ℕ → Option (List ℕ)
@@ -51,7 +52,7 @@ nothing_read = record { next = None; byte_at = λ a. None; ended = false }
 
 -- the memory has addresses from 0x4000 to 0xFFFF, and each is named once at most
 abbrev pub is_free : (ℕ → Option ℕ) → ℕ → Bool
-is_free m a = nat_le 0x4000 a && nat_lt a 0x10000 && is_none (m a)
+is_free m a = nat_le CODE_START a && nat_lt a 0x10000 && is_none (m a)
 
 abbrev pub with_byte : (ℕ → Option ℕ) → ℕ → ℕ → ℕ → Option ℕ
 with_byte m a b x = if x == a then Some b else m x

@@ -7,7 +7,7 @@ ghost use Rattle.mote_text.specs.Cells.{cells_map};
 ghost use Rattle.mote_text.specs.ImageLines.{is_free, with_byte};
 
 use msp_isa::Loaded;
-use nm_base::NoMemory;
+use nm_base::{CODE_START, NoMemory};
 use std::alloc::Global;
 
 /// How many bytes the memory from 0x4000 on has.
@@ -37,7 +37,7 @@ impl Cells {
             × (cells_map self.new.bytes.items ≡ with_byte (cells_map self.old.bytes.items) address byte)) }
         ensures room { IsSome result → address < 0x10000 }
     {
-        let index = address.checked_sub(0x4000)? as usize;
+        let index = address.checked_sub(u32::from(CODE_START))? as usize;
         if index >= self.bytes.len() || self.bytes[index].is_some() {
             return None;
         }

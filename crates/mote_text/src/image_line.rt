@@ -8,6 +8,7 @@ ghost use Rattle.mote_text.specs.Parsed.{line_of};
 
 use crate::lines::numeral;
 use arrayvec::ArrayVec;
+use nm_base::CODE_START;
 
 /// A line of an image's text: nothing, where the next bytes go, bytes, or the end.
 #[derive(Drop)]
@@ -26,7 +27,7 @@ fn section_address(digits: &[u8]) -> Option<u16>
         return None;
     }
     let address = numeral(digits, 16, 0xFFFF)?;
-    if address >= 0x4000 {
+    if address >= u32::from(CODE_START) {
         Some(address as u16)
     } else {
         None

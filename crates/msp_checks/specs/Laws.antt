@@ -1,5 +1,6 @@
 -- Where the code of a check is laid out, the routine that a Help of its number asks for stands (own).
 use Rattle.std.specs.Prelude.{◌≡◌, ℕ, ◌+◌, ◌*◌, ◌<◌, ◌≤◌, List, length, Some, slice_get}
+use Rattle.nm_base.specs.declared.memory_map.TheConstants.{RAM_START}
 use Rattle.nm_base.specs.declared.action.Action.{Action}
 use Rattle.msp_isa.specs.declared.code.CodeFn.{CodeFn}
 use Rattle.msp_isa.specs.Stands.{IsLaid, items_of}
@@ -16,7 +17,7 @@ use Rattle.msp_checks.specs.Checks.{IsOfWords, check_code, check_items, check_mo
 abbrev pub ChecksAreRoutines : Type 0
 ChecksAreRoutines =
     (c : MidCode) (k : ℕ) (check : Check) (image : ℕ → ℕ) (data_end : ℕ) (marks : ℕ → List Action) (entries : ℕ → ℕ) (out : List CodeFn) (laid : IsLaid image out entries) (f : ℕ) →
-    slice_get c.checks k ≡ Some check → IsOfWords check → 0x1100 ≤ data_end → f < length out → items_of out f ≡ check_items check → IsUnmarked marks (laid.places f) (length (items_of out f)) → even (entries f) ≡ entries f → entries f < 0x10000 →
+    slice_get c.checks k ≡ Some check → IsOfWords check → RAM_START ≤ data_end → f < length out → items_of out f ≡ check_items check → IsUnmarked marks (laid.places f) (length (items_of out f)) → even (entries f) ≡ entries f → entries f < 0x10000 →
     IsRoutine c image data_end marks (first_check + k) (entries f) (check_most check)
 
 -- eight instructions a run, and a stack of two words with the return address

@@ -1,6 +1,7 @@
 -- Where the code of functions stands in an image: the instructions of each item at its address, jumps and calls leading to
 -- the addresses of labels and functions (SLAU049, sections 3.3 and 3.4; jumps that reach farther are own).
 use Rattle.std.specs.Prelude.{◌≡◌, ℕ, ℤ, pos, negsuc, ◌+◌, ◌-◌, ◌*◌, ◌/◌, ◌%◌, ◌<◌, ◌≤◌, nat_le, Bool, true, false, if◌then◌else◌, List, [], ◌∷◌, ◌++◌, length, slice_index_or}
+use Rattle.nm_base.specs.declared.memory_map.TheConstants.{CODE_START}
 use Rattle.msp_isa.specs.declared.code.CodeFn.{CodeFn}
 use Rattle.msp_isa.specs.declared.code.Item.{Item}
 use Rattle.msp_isa.specs.declared.code.Item.TheVariants as item
@@ -20,7 +21,7 @@ word_in image a = image a + 256 * image (a + 1)
 -- the words of an instruction stand at an even address of the code
 pub record IsAt (image : ℕ → ℕ) (pc : ℕ) (i : Instr) : Type 0 where
   pub even : pc % 2 ≡ 0
-  pub low : 0x4000 ≤ pc
+  pub low : CODE_START ≤ pc
   pub high : pc + 6 < 0x10000
   pub written : IsWritten i
   pub rest : List ℕ

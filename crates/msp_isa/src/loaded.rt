@@ -5,7 +5,7 @@ ghost use Rattle.msp_isa.specs.Image.{byte_of, bytes_map, image_map};
 
 use crate::Image;
 use byteorder::{ByteOrder, LittleEndian};
-use nm_base::NoMemory;
+use nm_base::{CODE_START, NoMemory, VECTORS};
 use std::alloc::Global;
 use std::marker::Model;
 
@@ -49,7 +49,7 @@ pub fn load_image(alloc: Global, image: &Image) -> Result<Loaded, NoMemory>
 {
     let mut bytes = Vec::new(alloc);
     for offset in 0..49152 {
-        bytes.push(image_byte(&image.code, &image.vectors, 0x4000 + offset))?;
+        bytes.push(image_byte(&image.code, &image.vectors, CODE_START + offset))?;
     }
     Ok(Loaded { bytes })
 }
@@ -58,9 +58,9 @@ fn image_byte(code: &[u16], vectors: &[u16; 16], address: u16) -> u8
     ensures { result ≡ image_map code.now vectors.now address }
 {
     match address {
-        0xFFE0.. => byte_of(vectors[usize::from((address - 0xFFE0) / 2)], address),
-        0x4000.. => {
-            let index = usize::from((address - 0x4000) / 2);
+        VECTORS.. => byte_of(vectors[usize::from((address - VECTORS) / 2)], address),
+        CODE_START.. => {
+            let index = usize::from((address - CODE_START) / 2);
             byte_of(code.get(index).copied().unwrap_or(0), address)
         }
         _ => 0,

@@ -1,5 +1,6 @@
 -- What `layout` is given, and what it gives (own).
 use Rattle.std.specs.Prelude.{◌≡◌, ℕ, ◌+◌, ◌<◌, ◌≤◌, ◌*◌, ◌%◌, ◌^◌, List, length, min, map, ◌++◌, replicate}
+use Rattle.nm_base.specs.declared.memory_map.TheConstants.{CODE_BYTES, RAM_BYTES}
 use Rattle.nm_base.specs.declared.fault.Fault.{Fault}
 use Rattle.nm_base.specs.declared.fault.Fault.TheVariants.{TooLarge, NoMemory}
 use Rattle.nm_base.specs.declared.limit.Room.TheVariants.{Code, Ram}
@@ -63,22 +64,22 @@ told n = min n 0xFFFF_FFFF
 -- data and stack fit the memory
 pub record FitsRam (code : List CodeFn) (lines : List ℕ) (reset ram stack : ℕ) : Type 0 where
   pub is_stack : IsStack code lines reset stack
-  pub fits : ram + stack ≤ 10240
+  pub fits : ram + stack ≤ RAM_BYTES
 
 -- the code, or else data and stack, are more than the memory holds
 pub record PassesCode (code : List CodeFn) (need : ℕ) : Type 0 where
   pub bytes : ℕ
   pub has : HasBytes code bytes
-  pub above : 49120 < bytes
+  pub above : CODE_BYTES < bytes
   pub tells : need ≡ told bytes
 
 pub record PassesRam (code : List CodeFn) (lines : List ℕ) (reset ram need : ℕ) : Type 0 where
   pub bytes : ℕ
   pub has : HasBytes code bytes
-  pub fits : bytes ≤ 49120
+  pub fits : bytes ≤ CODE_BYTES
   pub stack : ℕ
   pub is_stack : IsStack code lines reset stack
-  pub above : 10240 < ram + stack
+  pub above : RAM_BYTES < ram + stack
   pub tells : need ≡ told (ram + stack)
 
 abbrev pub HasCause : List CodeFn → List ℕ → ℕ → ℕ → Fault → Type 0

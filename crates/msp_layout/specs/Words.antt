@@ -1,6 +1,7 @@
 -- The words of instructions, and where they stand among the words of the code (own).
 use Rattle.std.specs.Prelude.{◌≡◌, ℕ, ◌+◌, ◌*◌, ◌<◌, ◌≤◌, ◌==◌, not, Bool, List, [], ◌∷◌, ◌++◌, length, slice_index, slice_index_or, map}
 use Rattle.std.specs.List.{AllByRecursion}
+use Rattle.nm_base.specs.declared.memory_map.TheConstants.{CODE_START}
 use Rattle.msp_isa.specs.declared.code.CodeFn.{CodeFn}
 use Rattle.msp_isa.specs.declared.code.Item.{Item}
 use Rattle.msp_isa.specs.declared.code.Item.TheVariants as item
@@ -29,7 +30,7 @@ is_long size = not (size == 2)
 -- an item as it was formed, in a function that begins behind so many bytes
 abbrev pub formed_item : (entries : ℕ → ℕ) → (items : List Item) → (sizes targets : List ℕ) → (before k : ℕ) → List Instr
 formed_item entries items sizes targets before k =
-    instructions entries (is_long (slice_index sizes k)) (0x4000 + (before + place sizes k)) (0x4000 + (before + place sizes (slice_index targets k))) (item_at items k)
+    instructions entries (is_long (slice_index sizes k)) (CODE_START + (before + place sizes k)) (CODE_START + (before + place sizes (slice_index targets k))) (item_at items k)
 
 -- the first items of a function stand among the words
 abbrev pub ItemsStand : (entries : ℕ → ℕ) → (items : List Item) → (sizes targets : List ℕ) → (before : ℕ) → (words : List ℕ) → (upto : ℕ) → Type 0

@@ -1,6 +1,7 @@
 //! The image of code: all functions one behind the other, and the vectors.
 
 ghost use Rattle.std.specs.Prelude.{◌≡◌, ℕ, ◌+◌, ◌*◌, ◌^◌, ◌<◌, ◌≤◌, ◌++◌, IfOk, List, length, slice_index, map, replicate, sum, sum_by, min};
+ghost use Rattle.nm_base.specs.declared.memory_map.TheConstants.{CODE_BYTES, CODE_START};
 ghost use Rattle.msp_layout.specs.Laid.{AreGoodFns, told};
 ghost use Rattle.msp_layout.specs.Bytes.{entry_of};
 ghost use Rattle.msp_layout.specs.Words.{AreFormed, ArePlacesAll, FnsStand, all_sizes};
@@ -38,9 +39,9 @@ pub(crate) fn code_bytes(forms: &[Formed]) -> u32
 /// The address of each function.
 pub(crate) fn entries_of(alloc: Global, forms: &[Formed]) -> Result<Vec<u16>, NoMemory>
     requires places { ArePlacesAll forms.now }
-    requires room { sum_by sum (all_sizes forms.now) ≤ 49120 }
+    requires room { sum_by sum (all_sizes forms.now) ≤ CODE_BYTES }
     ensures len { IfOk result (λ entries. length entries.items ≡ length forms.now) }
-    ensures each { IfOk result (λ entries. (f : ℕ) → f < length forms.now → slice_index entries.items f ≡ 0x4000 + entry_of (all_sizes forms.now) f) }
+    ensures each { IfOk result (λ entries. (f : ℕ) → f < length forms.now → slice_index entries.items f ≡ CODE_START + entry_of (all_sizes forms.now) f) }
 {
     let mut entries = Vec::with_capacity(alloc, forms.len())?;
     let mut at = CODE_START;
@@ -61,7 +62,7 @@ pub(crate) fn words_of_all(
     requires good { AreGoodFns code.now }
     requires formed { AreFormed code.now forms.now (length code.now) }
     requires entries { length entries.now ≡ length code.now }
-    requires room { sum_by sum (all_sizes forms.now) ≤ 49120 }
+    requires room { sum_by sum (all_sizes forms.now) ≤ CODE_BYTES }
     ensures len { IfOk result (λ words. 2 * length words.items ≡ sum_by sum (all_sizes forms.now)) }
     ensures wide { IfOk result (λ words. (i : ℕ) → slice_index words.items i < 2 ^ 16) }
     ensures stands { IfOk result (λ words. FnsStand (slice_index entries.now) code.now forms.now words.items (length code.now)) }

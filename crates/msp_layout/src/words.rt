@@ -2,6 +2,7 @@
 
 ghost use Rattle.std.specs.Prelude.{◌≡◌, ℕ, ◌+◌, ◌*◌, ◌^◌, ◌<◌, ◌≤◌, ◌++◌, OnOk, List, true, false, length, slice_index, sum};
 ghost use Rattle.std.specs.List.{AllByRecursion};
+ghost use Rattle.nm_base.specs.declared.memory_map.TheConstants.{CODE_BYTES};
 ghost use Rattle.nm_base.specs.Lists.{IsPrefixOf};
 ghost use Rattle.msp_isa.specs.Encode.{encoded, IsWritten};
 ghost use Rattle.msp_isa.specs.Stands.{words_to, reversed, goto, long_jump, instructions, item_at};
@@ -117,7 +118,7 @@ pub(crate) fn push_fn(
 ) -> Result<(), NoMemory>
     requires good { (k : ℕ) → k < length items.now → IsGoodItem (length entries.now) (item_at items.now k) }
     requires formed { IsFormed items.now form.now }
-    requires room { 2 * length code.old.items + sum form.now.sizes.items ≤ 49120 }
+    requires room { 2 * length code.old.items + sum form.now.sizes.items ≤ CODE_BYTES }
     ensures grows { OnOk result (IsPrefixOf code.old.items code.new.items) }
     ensures len { OnOk result (2 * length code.new.items ≡ 2 * length code.old.items + sum form.now.sizes.items) }
     ensures wide { OnOk result ((i : ℕ) → slice_index code.new.items i < 2 ^ 16) }

@@ -1,5 +1,6 @@
 -- What holds of all routines: each stands at its place, and they can be laid out (own).
 use Rattle.std.specs.Prelude.{◌≡◌, ℕ, ◌<◌, ◌≤◌, List, [], length}
+use Rattle.nm_base.specs.declared.memory_map.TheConstants.{RAM_START}
 use Rattle.nm_base.specs.declared.action.Action.{Action}
 use Rattle.msp_isa.specs.declared.code.CodeFn.{CodeFn}
 use Rattle.msp_isa.specs.Stands.{IsLaid, items_of}
@@ -19,7 +20,7 @@ use Rattle.msp_routines.specs.Routines.{HasRoutine, routine_bound, routine_fns, 
 abbrev pub RoutinesStand : Type 0
 RoutinesStand =
     (c : MidCode) (image : ℕ → ℕ) (data_end : ℕ) (marks : ℕ → List Action) (entries : ℕ → ℕ) (functions behind : List CodeFn) (laid : IsLaid image (with_routines functions c.checks behind) entries) (h f : ℕ) →
-    HasRoutine (length c.checks) h → f ≡ routine_of (length functions) h → AreOfWords c.checks → 0x1100 ≤ data_end →
+    HasRoutine (length c.checks) h → f ≡ routine_of (length functions) h → AreOfWords c.checks → RAM_START ≤ data_end →
     IsUnmarked marks (laid.places f) (length (items_of (with_routines functions c.checks behind) f)) → even (entries f) ≡ entries f → entries f < 0x10000 →
     IsRoutine c image data_end marks h (entries f) (routine_bound c.checks h)
 

@@ -1,5 +1,6 @@
 -- Where the code of an operation is laid out, the routine that a Help asks for stands (own).
 use Rattle.std.specs.Prelude.{◌≡◌, ℕ, ◌+◌, ◌<◌, ◌≤◌, List, [], length}
+use Rattle.nm_base.specs.declared.memory_map.TheConstants.{RAM_START}
 use Rattle.nm_base.specs.declared.action.Action.{Action}
 use Rattle.msp_isa.specs.declared.code.CodeFn.{CodeFn}
 use Rattle.msp_isa.specs.Stands.{IsLaid, items_of}
@@ -17,7 +18,7 @@ IsUnmarked marks places items = (k a : ℕ) → k < items → places k ≤ a →
 abbrev pub RoutinesAreRoutines : Type 0
 RoutinesAreRoutines =
     (c : MidCode) (image : ℕ → ℕ) (data_end : ℕ) (marks : ℕ → List Action) (entries : ℕ → ℕ) (out : List CodeFn) (laid : IsLaid image out entries) (f h : ℕ) →
-    h < 48 → 0x1100 ≤ data_end → f < length out → items_of out f ≡ routine_items (code_at h) → IsUnmarked marks (laid.places f) (length (items_of out f)) → even (entries f) ≡ entries f → entries f < 0x10000 →
+    h < 48 → RAM_START ≤ data_end → f < length out → items_of out f ≡ routine_items (code_at h) → IsUnmarked marks (laid.places f) (length (items_of out f)) → even (entries f) ≡ entries f → entries f < 0x10000 →
     IsRoutine c image data_end marks h (entries f) (weight (code_at h) + 2)
 
 -- with RET, and with the return address

@@ -1,6 +1,7 @@
 -- What is so of a routine that the code of a Help calls: it takes values in registers from R12 on, gives others there, and does
 -- nothing else that lasts (own).
 use Rattle.std.specs.Prelude.{◌≡◌, ℕ, zero, suc, ◌+◌, ◌/◌, ◌%◌, ◌<◌, ◌≤◌, false, List, [], ◌∷◌, length, Option, Some, None}
+use Rattle.nm_base.specs.declared.memory_map.TheConstants.{RAM_END, RAM_START}
 use Rattle.nm_base.specs.declared.action.Action.{Action}
 use Rattle.nm_base.specs.declared.action.Action.TheVariants as action
 use Rattle.msp_isa.specs.declared.instr.Instr.TheVariants.{Two}
@@ -79,7 +80,7 @@ pub record IsRoutineOf (Takes : List ℕ → Type 0) (gives : List ℕ → Optio
   pub even_entry : even entry ≡ entry
   pub small_entry : entry < 0x10000
   pub runs : (values : List ℕ) (top : ℕ) (start : Cpu) (ram : ℕ → ℕ) → Takes values → start.pc ≡ entry → HoldsWords start → cpuoff start ≡ false → start.gate ≡ gie start → Hold 12 values (reg start) → ((a : ℕ) → ram a < 0x100) →
-      data_end + routine_stack ≤ start.sp + 2 → start.sp + 2 ≤ top → top ≤ 0x3900 →
+      data_end + routine_stack ≤ start.sp + 2 → start.sp + 2 ≤ top → top ≤ RAM_END →
       (n : ℕ) × (n < most) × Turns (code_below image data_end marks top) (IsGoing (code_below image data_end marks top) start ram) (Ends (code_below image data_end marks top) start ram (gives values)) n (open_start start ram)
 
 -- values as the rules of form have them
@@ -93,5 +94,5 @@ IsRoutine c image data_end marks h entry most = IsRoutineOf (IsPassed c h) (help
 -- a lone RET is a routine that gives the values that it is passed
 abbrev pub LoneReturnGivesBack : Type 0
 LoneReturnGivesBack =
-    (image : ℕ → ℕ) (data_end : ℕ) (marks : ℕ → List Action) (entry : ℕ) → 0x1100 ≤ data_end → IsMarked image marks entry [] (Two Mov false (Increment 1) (Reg 0)) →
+    (image : ℕ → ℕ) (data_end : ℕ) (marks : ℕ → List Action) (entry : ℕ) → RAM_START ≤ data_end → IsMarked image marks entry [] (Two Mov false (Increment 1) (Reg 0)) →
     IsRoutineOf (λ values. length values ≤ 4) (λ values. Some values) image data_end marks entry 2

@@ -1,5 +1,6 @@
 -- What selected code relies on: where it stands, where values are kept, how deep the stack goes, and when actions come (own).
 use Rattle.std.specs.Prelude.{◌≡◌, ◌≢◌, ◌⊎◌, ℕ, ◌+◌, ◌*◌, ◌/◌, ◌^◌, ◌<◌, ◌≤◌, Bool, true, false, List, [], ◌∷◌, length, Option, Some, slice_get}
+use Rattle.nm_base.specs.declared.memory_map.TheConstants.{RAM_START}
 use Rattle.nm_base.specs.declared.action.Action.{Action}
 use Rattle.nm_base.specs.Behaviour.{Trace, play}
 use Rattle.msp_isa.specs.declared.code.Item.{Item}
@@ -128,7 +129,7 @@ pub record IsSelected (code : MidCode) (homes : ℕ → ℕ → Home) (own deep 
   pub is : root < length code.fns
   pub params : (fn_of code root).params ≡ []
   pub given : gives ≡ form.gives root
-  pub low_end : 0x1100 ≤ data_end
+  pub low_end : RAM_START ≤ data_end
   -- an entry has three instructions for each word and one more; a call one for each value passed and one more
   pub entry : (f : ℕ) → f < length code.fns → 3 * (own f / 2) + 1 < long
   pub call : (f : ℕ) → f < length code.fns → count_pushed (fn_of code f).params + 1 < long

@@ -1,6 +1,7 @@
 //! Addresses of objects.
 
 ghost use Rattle.std.specs.Prelude.{◌≡◌, ◌≤◌, All, IfOk};
+ghost use Rattle.nm_base.specs.declared.memory_map.TheConstants.{RAM_START};
 ghost use Rattle.nesc_types.specs.Addresses as spec;
 ghost use Rattle.nesc_types.specs.Addresses.{LiesEven, taken, addresses};
 
@@ -17,7 +18,7 @@ fn evened(size: u32) -> u32
 /// The address of each object of these sizes in bytes, from the start of RAM upwards, each even.
 pub fn place(alloc: Global, sizes: &[u32]) -> Result<Vec<u32>, NoMemory>
     requires { taken sizes.now ≤ 60000 }
-    ensures addresses { IfOk result (λ places. places.items ≡ addresses 4352 sizes.now) }
+    ensures addresses { IfOk result (λ places. places.items ≡ addresses RAM_START sizes.now) }
     ensures lie { IfOk result (λ places. All LiesEven places.items) }
 {
     let mut places = Vec::new(alloc);

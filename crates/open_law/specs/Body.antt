@@ -1,5 +1,6 @@
 -- The open law of a body's code: what is so of it whenever it is called (own).
 use Rattle.std.specs.Prelude.{◌≡◌, ℕ, zero, suc, ◌+◌, ◌-◌, ◌*◌, ◌<◌, ◌≤◌, true, false, List, None}
+use Rattle.nm_base.specs.declared.memory_map.TheConstants.{RAM_END}
 use Rattle.nm_base.specs.declared.action.Action.{Action}
 use Rattle.msp430_cpu.specs.Cpu.{Cpu, even, gie, cpuoff, reg}
 use Rattle.nm_base.specs.Behaviour.{Performed, Trace, Returned, is_returned}
@@ -49,13 +50,13 @@ module _ (image : ℕ → ℕ) (data_end : ℕ) (marks : ℕ → List Action) wh
   -- The law of a body that is called with the gate open or closed throughout: `Gate` says which
   abbrev pub IsBodyLaw : (Gate : Code → Open → Type 0) → (act : List ℕ → ℕ → Performed) → (entry depth bound : ℕ) → (Starts : Cpu → Type 0) → Type 0
   IsBodyLaw Gate act entry depth bound Starts =
-      (c : Cpu) (ram : ℕ → ℕ) → c.pc ≡ entry → Starts c → cpuoff c ≡ false → HoldsWords c → data_end + depth ≤ c.sp → c.sp + 2 ≤ 0x3900 → ((a : ℕ) → ram a < 0x100) →
+      (c : Cpu) (ram : ℕ → ℕ) → c.pc ≡ entry → Starts c → cpuoff c ≡ false → HoldsWords c → data_end + depth ≤ c.sp → c.sp + 2 ≤ RAM_END → ((a : ℕ) → ram a < 0x100) →
       IsOpenCode act (code_below (c.sp + 2)) (c.sp - depth) bound (Gate (code_below (c.sp + 2))) (HasReturned act c ram) c ram
 
   -- The same of a function that gives so many values, at most two
   abbrev pub IsFunctionLaw : (Gate : Code → Open → Type 0) → (gives : ℕ) → (act : List ℕ → ℕ → Trace) → (entry depth bound : ℕ) → (Starts : Cpu → Type 0) → Type 0
   IsFunctionLaw Gate gives act entry depth bound Starts =
-      (c : Cpu) (ram : ℕ → ℕ) → c.pc ≡ entry → Starts c → cpuoff c ≡ false → HoldsWords c → data_end + depth ≤ c.sp → c.sp + 2 ≤ 0x3900 → ((a : ℕ) → ram a < 0x100) →
+      (c : Cpu) (ram : ℕ → ℕ) → c.pc ≡ entry → Starts c → cpuoff c ≡ false → HoldsWords c → data_end + depth ≤ c.sp → c.sp + 2 ≤ RAM_END → ((a : ℕ) → ram a < 0x100) →
       IsOpenCode (acts act) (code_below (c.sp + 2)) (c.sp - depth) bound (Gate (code_below (c.sp + 2))) (HasGiven gives act c ram) c ram
 
   -- called with the gate open, and called with it closed

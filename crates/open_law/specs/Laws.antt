@@ -1,5 +1,6 @@
 -- What is so of all code that meets the open law (own).
 use Rattle.std.specs.Prelude.{ℕ, ◌≤◌, false, List, []}
+use Rattle.nm_base.specs.declared.memory_map.TheConstants.{RAM_START}
 use Rattle.nm_base.specs.declared.action.Action.{Action}
 use Rattle.nm_base.specs.Behaviour.{Performed, Trace, Returned}
 use Rattle.msp_isa.specs.declared.instr.Op2.TheVariants.{Mov}
@@ -27,5 +28,5 @@ nothing answers n = record { actions = []; why = Returned 0 }
 -- a lone RET, without marks, is the code of a function that does nothing, called with the gate open and with it closed
 abbrev pub LoneReturnIsOpen : Type 0
 LoneReturnIsOpen =
-    (image : ℕ → ℕ) (data_end : ℕ) (marks : ℕ → List Action) (entry : ℕ) → 0x1100 ≤ data_end → IsMarked image marks entry [] (Two Mov false (Increment 1) (Reg 0)) →
+    (image : ℕ → ℕ) (data_end : ℕ) (marks : ℕ → List Action) (entry : ℕ) → RAM_START ≤ data_end → IsMarked image marks entry [] (Two Mov false (Increment 1) (Reg 0)) →
     IsOpenFunction image data_end marks 0 nothing entry 0 2

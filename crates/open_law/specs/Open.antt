@@ -1,7 +1,7 @@
 -- The open law of code: it performs actions, whatever happens between its instructions (own).
 use Rattle.std.specs.Prelude.{◌≡◌, ℕ, ◌+◌, ◌<◌, ◌≤◌, ◌%◌, ◌==◌, Bool, true, false, ◌&&◌, nat_lt, nat_le, if◌then◌else◌, List, [], ◌∷◌, ◌++◌, length, slice_index, Option, Some, None, is_some, count_by}
 use Rattle.std.specs.List.{AllByRecursion}
-use Rattle.nm_base.specs.declared.memory_map.TheConstants.{FAULT}
+use Rattle.nm_base.specs.declared.memory_map.TheConstants.{FAULT, RAM_START}
 use Rattle.nm_base.specs.Lists.{IsPrefixOf}
 use Rattle.nm_base.specs.Ports.{Ports}
 use Rattle.nm_base.specs.declared.action.Action.{Action}
@@ -89,7 +89,7 @@ noted_ports answer = record {
 
 -- an address of an object, up to the end of the data
 abbrev pub is_data : ℕ → ℕ → Bool
-is_data data_end a = nat_le 0x1100 a && nat_lt a data_end
+is_data data_end a = nat_le RAM_START a && nat_lt a data_end
 
 -- a word lies at an even address
 abbrev pub address_of : ℕ → Bool → ℕ

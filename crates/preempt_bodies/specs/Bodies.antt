@@ -1,5 +1,6 @@
 -- An image of bodies that meet the open law, with the code of reset, sleep and handlers round them (own).
 use Rattle.std.specs.Prelude.{[], ◌∷◌, ◌++◌, ◌≡◌, ℕ, ◌+◌, ◌-◌, ◌*◌, ◌<◌, ◌≤◌, false, negsuc, if◌then◌else◌, List, Option, Some, None}
+use Rattle.nm_base.specs.declared.memory_map.TheConstants.{RAM_END, RAM_START, VECTORS}
 use Rattle.nm_base.specs.Lists.{bit}
 use Rattle.nm_base.specs.declared.action.Action.{Action}
 use Rattle.nm_base.specs.Behaviour.{Performed}
@@ -51,13 +52,13 @@ pub record IsLine (image : ℕ → ℕ) (marks : ℕ → List Action) (start : �
 
 -- reset: SP, GIE, the boot body; then sleep, in a loop
 abbrev pub reset_code : (boot : ℕ) → List Instr
-reset_code boot = Two Mov false (Immediate 0x3900) (Reg 1) ∷ open_gate ∷ call boot ∷ (sleep ++ Jump Jmp (negsuc 2) ∷ [])
+reset_code boot = Two Mov false (Immediate RAM_END) (Reg 1) ∷ open_gate ∷ call boot ∷ (sleep ++ Jump Jmp (negsuc 2) ∷ [])
 
 module _ (image : ℕ → ℕ) (data_end : ℕ) (marks : ℕ → List Action) (act : List ℕ → ℕ → Performed) where
   -- The law of the code at a line's vector, from the acceptance to RETI: it leaves what it interrupts as it was
   abbrev pub IsHandlerLaw : (start depth bound : ℕ) → Type 0
   IsHandlerLaw start depth bound =
-      (c : Cpu) (ram : ℕ → ℕ) → c.pc ≡ start → c.sr ≡ 0 → c.gate ≡ false → HoldsWords c → data_end + depth ≤ c.sp → c.sp + 4 ≤ 0x3900 → ((a : ℕ) → ram a < 0x100) →
+      (c : Cpu) (ram : ℕ → ℕ) → c.pc ≡ start → c.sr ≡ 0 → c.gate ≡ false → HoldsWords c → data_end + depth ≤ c.sp → c.sp + 4 ≤ RAM_END → ((a : ℕ) → ram a < 0x100) →
       IsOpenCode act (code_below image data_end marks (c.sp + 4)) (c.sp - depth) bound IsShut (HasResumed act c ram) c ram
 
   -- what it calls meets the law with the gate closed, or it calls nothing and there is nothing to do
@@ -81,15 +82,15 @@ stack_of z = 2 + z.boot_depth + 4 + z.handler_depth
 -- a line's vector, and the code there
 pub record IsVector (P : Source) (image : ℕ → ℕ) (marks : ℕ → List Action) (z : Sizes) (v : ℕ) : Type 0 where
   pub entry : ℕ
-  pub stands : word_in image (0xFFE0 + 2 * v) ≡ entry
+  pub stands : word_in image (VECTORS + 2 * v) ≡ entry
   pub word : entry < 0x10000
   pub law : IsHandlerLaw image z.data_end marks (act_of P (P.handler v)) (even entry) z.handler_depth z.bound
 
 -- the image of a program without tasks
 pub record IsBuilt (P : Source) (image : ℕ → ℕ) (marks : ℕ → List Action) (z : Sizes) : Type 0 where
-  pub low_end : 0x1100 ≤ z.data_end
+  pub low_end : RAM_START ≤ z.data_end
   pub even_end : even z.data_end ≡ z.data_end
-  pub room : z.data_end + stack_of z ≤ 0x3900
+  pub room : z.data_end + stack_of z ≤ RAM_END
   pub some : 1 ≤ z.bound
   pub reset_at : ℕ
   pub reset_end : ℕ

@@ -1,6 +1,7 @@
 -- The code of reset and of the lines, laid out among the functions of a program (own).
 use Rattle.std.specs.Prelude.{◌≡◌, ℕ, ◌+◌, ◌*◌, ◌<◌, ◌≤◌, List, [], length, Option}
 use Rattle.std.specs.Option.{option_map}
+use Rattle.nm_base.specs.declared.memory_map.TheConstants.{RAM_END, RAM_START, VECTORS}
 use Rattle.nm_base.specs.declared.action.Action.{Action}
 use Rattle.core_meaning.specs.Source.{Source, act_of}
 use Rattle.msp_isa.specs.declared.code.CodeFn.{CodeFn}
@@ -18,7 +19,7 @@ module _ (P : Source) (image : ℕ → ℕ) (marks : ℕ → List Action) (z : S
     pub body : Option ℕ
     pub is : f < length code
     pub items : items_of code f ≡ (handler_of body).items
-    pub vector : word_in image (0xFFE0 + 2 * v) ≡ entries f
+    pub vector : word_in image (VECTORS + 2 * v) ≡ entries f
     pub no_marks : (a : ℕ) → entries f ≤ a → a < places f (length (handler_of body).items) → marks a ≡ []
     pub depth : ℕ
     pub bound : ℕ
@@ -28,9 +29,9 @@ module _ (P : Source) (image : ℕ → ℕ) (marks : ℕ → List Action) (z : S
     pub serves : Serves image z.data_end marks (act_of P (P.handler v)) depth bound (option_map entries body)
 
   pub record IsLaidOut : Type 0 where
-    pub low_end : 0x1100 ≤ z.data_end
+    pub low_end : RAM_START ≤ z.data_end
     pub even_end : even z.data_end ≡ z.data_end
-    pub room : z.data_end + stack_of z ≤ 0x3900
+    pub room : z.data_end + stack_of z ≤ RAM_END
     pub some : 1 ≤ z.bound
     -- the function of reset calls the boot function
     pub reset : ℕ

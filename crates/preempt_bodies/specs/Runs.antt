@@ -1,5 +1,6 @@
 -- What is promised of an image of bodies, on boards whose registers hold words (own).
 use Rattle.std.specs.Prelude.{◌≡◌, ℕ, ◌+◌, ◌≤◌, false, List, ◌∷◌, ◌++◌, Option, IsNone}
+use Rattle.nm_base.specs.declared.memory_map.TheConstants.{RAM_END, RAM_START}
 use Rattle.nm_base.specs.declared.action.Action.{Action}
 use Rattle.nm_base.specs.Behaviour.{Performed}
 use Rattle.mote_devices.specs.declared.state.BoardState.{BoardState}
@@ -19,7 +20,7 @@ use Rattle.preempt_bodies.specs.Bodies.{Sizes, IsBuilt, IsHandlerLaw, IsLine, Se
 abbrev pub Survives : Type 0
 Survives =
     (image : ℕ → ℕ) (data_end : ℕ) (marks : ℕ → List Action) (act : List ℕ → ℕ → Performed) (start depth bound : ℕ) (body : Option ℕ) →
-    0x1100 ≤ data_end → 1 ≤ bound → IsLine image marks start body → Serves image data_end marks act depth bound body →
+    RAM_START ≤ data_end → 1 ≤ bound → IsLine image marks start body → Serves image data_end marks act depth bound body →
     IsHandlerLaw image data_end marks act start (26 + depth) (bound + 28)
 
 -- A mote with the image does what the source allows, on every such board, with every schedule of words, after every number of slots;
@@ -28,7 +29,7 @@ abbrev pub RunsAsSource : Type 0
 RunsAsSource =
     (P : Source) (image : ℕ → ℕ) (marks : ℕ → List Action) (z : Sizes) (b : BoardState) (rows : List Due) (pace n : ℕ) →
     IsWordBoard b → AreWordRows IsWordGiven rows → IsBuilt P image marks z → z.bound + 3 ≤ pace →
-    Allowed P pace b (mote image b rows) n × (0x3900 ≤ (mote image b rows n).least + stack_of z)
+    Allowed P pace b (mote image b rows) n × (RAM_END ≤ (mote image b rows n).least + stack_of z)
 
 -- In a run a handler is entered where no atomic statement of the base is open and no handler runs
 abbrev pub EntriesFallOutside : Type 0

@@ -1,6 +1,7 @@
 -- What stands in a program's image, in order: the functions of its bodies, the routines of 48 operations and of its checks, and behind
 -- them the code of reset and of the lines (own).
 use Rattle.std.specs.Prelude.{◌≡◌, ℕ, ◌+◌, ◌*◌, ◌/◌, ◌<◌, ◌≤◌, List, length, Some, slice_get}
+use Rattle.nm_base.specs.declared.memory_map.TheConstants.{RAM_END, RAM_START, VECTORS}
 use Rattle.nm_base.specs.declared.action.Action.{Action}
 use Rattle.nesc_core.specs.Plain.{Program}
 use Rattle.nesc_core.specs.Weights.{objects_end, pace_of_program}
@@ -47,7 +48,7 @@ module _ (p : Program) (deep : ℕ → ℕ) (image : ℕ → ℕ) (data_end hand
     pub is : f < length code
     pub behind : functions_of p ≤ f
     pub items : items_of code f ≡ (handler_of (handler_in p.handlers v)).items
-    pub vector : word_in image (0xFFE0 + 2 * v) ≡ entries f
+    pub vector : word_in image (VECTORS + 2 * v) ≡ entries f
 
   -- no function's stack is deeper than `deep` says, and none of a line than `handler_depth`
   pub record IsProgramImage : Type 0 where
@@ -59,10 +60,10 @@ module _ (p : Program) (deep : ℕ → ℕ) (image : ℕ → ℕ) (data_end hand
     pub depths : (f : ℕ) → f < functions_of p → IsDeep (lowered p) (homes_of p) (own_of p) deep f
     pub least_depth : 26 ≤ handler_depth
     pub handlers : (v f : ℕ) → handler_in p.handlers v ≡ Some f → 26 + deep f ≤ handler_depth
-    pub low_end : 0x1100 ≤ data_end
+    pub low_end : RAM_START ≤ data_end
     pub objects : objects_end p ≤ data_end
     pub even_end : even data_end ≡ data_end
-    pub room : data_end + stack_of (sizes_of p deep data_end handler_depth entries) ≤ 0x3900
+    pub room : data_end + stack_of (sizes_of p deep data_end handler_depth entries) ≤ RAM_END
     pub reset : ℕ
     pub reset_is : reset < length code
     pub reset_items : items_of code reset ≡ (reset_of p.boot).items

@@ -1,6 +1,7 @@
 -- The code of a program's image in its order, and what else is asked of where it stands (own).
 use Rattle.std.specs.Prelude.{◌≡◌, ℕ, ◌+◌, ◌<◌, ◌≤◌, List, ◌∷◌, ◌++◌, length, map, replicate, Some, slice_get}
 use Rattle.std.specs.List.{range_with_len}
+use Rattle.nm_base.specs.declared.memory_map.TheConstants.{RAM_END, RAM_START}
 use Rattle.nesc_core.specs.Plain.{Program}
 use Rattle.nesc_core.specs.Weights.{objects_end}
 use Rattle.core_meaning.specs.SourceOf.{handler_in}
@@ -52,10 +53,10 @@ pub record IsOrdered (p : Program) (deep : ℕ → ℕ) (words vectors : List �
   pub depths : (f : ℕ) → f < functions_of p → IsDeep (lowered p) (homes_of p) (own_of p) deep f
   pub least_depth : 26 ≤ handler_depth
   pub handlers : (v f : ℕ) → handler_in p.handlers v ≡ Some f → 26 + deep f ≤ handler_depth
-  pub low_end : 0x1100 ≤ data_end
+  pub low_end : RAM_START ≤ data_end
   pub objects : objects_end p ≤ data_end
   pub even_end : even data_end ≡ data_end
-  pub room : data_end + stack_of (sizes_of p deep data_end handler_depth entries) ≤ 0x3900
+  pub room : data_end + stack_of (sizes_of p deep data_end handler_depth entries) ≤ RAM_END
   pub leads : vectors ≡ map entries (lines_of p) ++ replicate 8 (entries (reset_place p))
 
 abbrev pub OrderedCodeStands : Type 0

@@ -1,5 +1,6 @@
 -- What is promised of a program's image (own).
 use Rattle.std.specs.Prelude.{◌≡◌, ℕ, ◌+◌, ◌≤◌, List, []}
+use Rattle.nm_base.specs.declared.memory_map.TheConstants.{RAM_END}
 use Rattle.mote_devices.specs.declared.state.BoardState.{BoardState}
 use Rattle.mote_devices.specs.WordBoards.{AreWordRows, IsWordBoard, IsWordGiven}
 use Rattle.mote_devices.specs.declared.shown.Due.{Due}
@@ -60,4 +61,4 @@ abbrev pub ProgramImagesRun : Type 0
 ProgramImagesRun =
     (p : Program) (deep : ℕ → ℕ) (image : ℕ → ℕ) (data_end handler_depth : ℕ) (code : List CodeFn) (entries : ℕ → ℕ) (b : BoardState) (rows : List Due) (n : ℕ) →
     IsBuiltOf p deep image data_end handler_depth code entries → IsWordBoard b → AreWordRows IsWordGiven rows →
-    Allowed (source_of p) (pace_of_program p) b (mote image b rows) n × (0x3900 ≤ (mote image b rows n).least + stack_of (sizes_of p deep data_end handler_depth entries))
+    Allowed (source_of p) (pace_of_program p) b (mote image b rows) n × (RAM_END ≤ (mote image b rows n).least + stack_of (sizes_of p deep data_end handler_depth entries))

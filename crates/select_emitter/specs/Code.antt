@@ -1,6 +1,7 @@
 -- The code of a function, with what it holds on the stack and what it calls (own).
 use Rattle.std.specs.Prelude.{ℕ, ◌+◌, ◌*◌, ◌^◌, ◌<◌, ◌≤◌, List, [], ◌∷◌, length, map}
 use Rattle.std.specs.List.{All}
+use Rattle.nm_base.specs.declared.memory_map.TheConstants.{RAM_BYTES}
 use Rattle.msp_isa.specs.declared.code.CodeFn.{CodeFn}
 use Rattle.msp_isa.specs.declared.code.Item.{Item}
 use Rattle.msp_isa.specs.declared.code.Item.TheVariants as item
@@ -28,7 +29,7 @@ all_code c = map (code_of c) c.fns
 
 -- the frame and two bytes for each value
 abbrev pub IsSmall : MidFn → Type 0
-IsSmall fn = fn.frame + 2 * fn.values ≤ 10240
+IsSmall fn = fn.frame + 2 * fn.values ≤ RAM_BYTES
 
 -- Code that can be selected: it keeps the rules of form, its frames are small, and the places of its functions, of 48 operations and
 -- of its checks are numbers of 32 bits

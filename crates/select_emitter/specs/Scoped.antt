@@ -1,5 +1,6 @@
 -- Where an instruction is selected, and the items that it becomes there.
 use Rattle.std.specs.Prelude.{◌≡◌, ℕ, ◌+◌, ◌-◌, ◌*◌, ◌<◌, ◌≤◌, ◌^◌, nat_lt, Bool, true, false, List, [], length, slice_index, slice_index_or}
+use Rattle.nm_base.specs.declared.memory_map.TheConstants.{RAM_BYTES}
 use Rattle.msp_isa.specs.declared.code.Item.{Item}
 use Rattle.mid_code.specs.declared.code.MidCode.{MidCode}
 use Rattle.mid_code.specs.declared.code.MidFn.{MidFn}
@@ -23,8 +24,8 @@ pub record IsFrame (fn : MidFn) (frame : Frame) : Type 0 where
   pub flags : frame.pushed ≡ flags_of fn.params
   pub many : length frame.homes ≡ fn.values
   pub homes : (v : ℕ) → v < fn.values → slice_index frame.homes v ≡ frame_place fn v
-  pub near : (v : ℕ) → v < fn.values → frame_place fn v ≤ 10240
-  pub small : own_bytes fn + 2 * count_pushed fn.params ≤ 10240
+  pub near : (v : ℕ) → v < fn.values → frame_place fn v ≤ RAM_BYTES
+  pub small : own_bytes fn + 2 * count_pushed fn.params ≤ RAM_BYTES
 
 abbrev pub no_frame : Frame
 no_frame = record { own = 0; words = 0; pushed = []; homes = [] }

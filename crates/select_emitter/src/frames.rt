@@ -1,6 +1,7 @@
 //! Where the values of functions lie on the stack, as tables.
 
 ghost use Rattle.std.specs.Prelude.{◌≡◌, ℕ, List as ListOf, ◌∷◌, [], ◌+◌, ◌-◌, ◌*◌, ◌<◌, ◌≤◌, IfOk, IfSome, None as none, length, replicate, slice_index, slice_index_or, false};
+ghost use Rattle.nm_base.specs.declared.memory_map.TheConstants.{RAM_BYTES};
 ghost use Rattle.mid_code.specs.Form.{AreBelow};
 ghost use Rattle.mid_code.specs.declared.code.MidFn.{MidFn as FnOf};
 ghost use Rattle.msp_select.specs.Frames as spec;
@@ -63,7 +64,7 @@ fn make_frame(alloc: Global, function: &MidFn) -> Result<Frame, NoMemory>
 
 // The next even number.
 fn rounded(n: u16) -> u16
-    requires { n ≤ 10240 }
+    requires { n ≤ RAM_BYTES }
     ensures { result ≡ spec.rounded n }
 {
     2 * ((n + 1) / 2)
@@ -132,7 +133,7 @@ fn others(behind: &[Option<u16>]) -> u16
 
 // The home of a value, where that of the next value that is no parameter is known.
 fn home(place: Option<u16>, own: u16, next: u16) -> u16
-    requires own { own ≤ 10240 }
+    requires own { own ≤ RAM_BYTES }
     requires place { IfSome place (λ words. words ≤ 5120) }
     ensures { result ≡ home_at place own next }
 {
@@ -159,8 +160,8 @@ fn home_behind(place: Option<u16>, next: u16) -> u16
 fn homes(alloc: Global, behind: &[Option<u16>], bytes: u16, own: u16) -> Result<Vec<u16>, NoMemory>
     requires few { length behind.now ≤ 5120 }
     requires near { (v : ℕ) → v < length behind.now → IfSome (slice_index_or behind.now v none) (λ words. words ≤ 5120) }
-    requires bytes { bytes ≤ 10240 }
-    requires own { own ≤ 10240 }
+    requires bytes { bytes ≤ RAM_BYTES }
+    requires own { own ≤ RAM_BYTES }
     ensures many { IfOk result (λ homes. length homes.items ≡ length behind.now) }
     ensures homes { (fn : FnOf) → AreBehind fn.params behind.now → bytes ≡ spec.rounded fn.frame → own ≡ own_bytes fn → IfOk result (λ homes. (v : ℕ) → v < length behind.now → slice_index homes.items v ≡ frame_place fn v) }
 {
