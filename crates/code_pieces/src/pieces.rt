@@ -115,7 +115,12 @@ pub fn reset_code(alloc: Global, boot: u32) -> Result<CodeFn, NoMemory>
     let mut items = Vec::new(alloc);
     put(
         &mut items,
-        Instr::Two(Op2::Mov, false, Operand::Immediate(RAM_END), Operand::Reg(SP)),
+        Instr::Two(
+            Op2::Mov,
+            false,
+            Operand::Immediate(RAM_END),
+            Operand::Reg(SP),
+        ),
     )?;
     put_open(&mut items)?;
     put_call(&mut items, Some(boot))?;
