@@ -1,11 +1,11 @@
 -- Worked rows of the command line.
-use Rattle.std.specs.Prelude.{◌≡◌, ℕ, List, [], ◌∷◌, codes, Some}
+use Rattle.std.specs.Prelude.{◌≡◌, ℕ, List, [], ◌∷◌, codes, Some, None}
 use Rattle.clap.specs.Words.{Kinds, Text, fault_of}
 use Rattle.clap.specs.declared.error.kind.ErrorKind.TheVariants.{ArgumentConflict, InvalidValue, MissingRequiredArgument, UnknownArgument, ValueValidation}
 use Rattle.nm_words.specs.Asked.{Asked, AreInUse, AreWords, help, request, version}
 use Rattle.nm_words.specs.Command.{nescmote}
 use Rattle.nm_words.specs.declared.mode.Mode.{Mode}
-use Rattle.nm_words.specs.declared.mode.Mode.TheVariants.{Run, Mote}
+use Rattle.nm_words.specs.declared.mode.Mode.TheVariants.{Check, Build, Run, Mote}
 
 abbrev run : Text
 run = codes "run"
@@ -22,7 +22,12 @@ option = codes "--budget"
 abbrev asks : Mode → ℕ → Asked
 asks mode budget = request (record { mode = mode; subject = app; schedule = Some file; budget = budget })
 
+abbrev asks_without : Mode → Asked
+asks_without mode = request (record { mode = mode; subject = app; schedule = None; budget = 10000 })
+
 pub record InUse : Type 0 where
+  pub check : AreWords (codes "check" ∷ app ∷ []) (asks_without Check)
+  pub build : AreWords (codes "build" ∷ app ∷ []) (asks_without Build)
   pub no_budget : AreWords (run ∷ app ∷ file ∷ []) (asks Run 10000)
   pub mote : AreWords (codes "mote" ∷ app ∷ file ∷ []) (asks Mote 10000)
   pub behind : AreWords (run ∷ app ∷ file ∷ option ∷ codes "5" ∷ []) (asks Run 5)
@@ -61,3 +66,4 @@ pub record NotInUse : Type 0 where
   -- the parser takes these words, and the modes do not
   pub unknown_mode : AreInUse (codes "fly" ∷ app ∷ file ∷ []) → ⊥
   pub no_schedule : AreInUse (run ∷ app ∷ []) → ⊥
+  pub check_by_schedule : AreInUse (codes "check" ∷ app ∷ file ∷ []) → ⊥

@@ -4,10 +4,12 @@ ghost use Rattle.std.specs.Prelude.{◌≡◌, MatchOption};
 ghost use Rattle.nm_words.specs.declared.mode.Mode.{Mode as ModeOf};
 ghost use Rattle.nm_words.specs.Modes.{mode_word, takes_schedule};
 
-/// What the program does with its subject: it compiles an application and runs its image, or it runs the image of a
-/// file.
+/// What the program does with its subject: it reports the races of an application, or it compiles the application, and
+/// runs its image or does not, or it runs the image of a file.
 #[derive(Clone, Copy, Debug, PartialEq, Eq)]
 pub enum Mode {
+    Check,
+    Build,
     Run,
     Mote,
 }
@@ -18,6 +20,8 @@ impl Mode {
         ensures { MatchOption result ((m : ModeOf) → word.now ≡ mode_word m → ⊥) (λ m. word.now ≡ mode_word m) }
     {
         match word {
+            "check" => Some(Mode::Check),
+            "build" => Some(Mode::Build),
             "run" => Some(Mode::Run),
             "mote" => Some(Mode::Mote),
             _ => None,
@@ -29,6 +33,7 @@ impl Mode {
         ensures { result ≡ takes_schedule self }
     {
         match self {
+            Mode::Check | Mode::Build => false,
             Mode::Run | Mode::Mote => true,
         }
     }

@@ -7,7 +7,9 @@ Compiles a nesC application for an MSP430 mote, and runs its image on a model of
 Usage: nescmote MODE APP [SCHEDULE] [--budget N]
 
 Modes:
-  run APP SCHEDULE     compile the application APP, print its image, and run it
+  check APP            report the data races of the application APP
+  build APP            compile it, and print the report and the image
+  run APP SCHEDULE     the same, and run the image
   mote IMAGE SCHEDULE  run the image in the file IMAGE
 
 APP is read from the file APP.nc. SCHEDULE is a file of what happens to the mote: lines
