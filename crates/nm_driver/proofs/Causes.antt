@@ -19,14 +19,14 @@ use Rattle.nm_driver.specs.declared.answer.Stop.{Stop}
 use Rattle.nm_driver.specs.declared.answer.Stop.TheVariants as stop
 use Rattle.nm_driver.specs.declared.form.Constant.{Constant}
 use Rattle.nm_words.specs.declared.mode.Mode.{Mode}
-use Rattle.nm_words.specs.declared.mode.Mode.TheVariants.{Run, Mote}
+use Rattle.nm_words.specs.declared.mode.Mode.TheVariants.{Check, Build, Run, Mote}
 use Rattle.nm_driver.specs.declared.status.Status.{Status}
 use Rattle.nm_driver.specs.declared.status.Status.TheVariants.{Done, Refused, Usage, Missing, ReadFault, WriteFault, BadSchedule, Limit, TooLarge, NoMemory, BadImage}
 use Rattle.nm_driver.specs.Form.{HasForm}
 use Rattle.nm_driver.specs.Lines.{answer_line}
-use Rattle.nm_driver.specs.NamedFiles.{FileStops, HasImage, HasRows, HasSchedule, HasSubject, ImageStops, IsRead, IsSource, IsStopped, IsTooLarge, RowsStop, ScheduleStops, SubjectStops, source_file, status_of}
-use Rattle.nm_driver.specs.Output.{HasCause, HasText, IsDone, IsDue, IsReady, Prints, Stops}
-use Rattle.nm_driver.specs.Prepared.{IfSays, IsLined, IsNoMemory, SaysOf, SaysOfSubject, fault_file, line_of}
+use Rattle.nm_driver.specs.NamedFiles.{FileStops, HasImage, HasRows, HasSchedule, HasSubject, ImageStops, IsRead, IsSource, IsStopped, IsTooLarge, RowsStop, ScheduleStops, SourceStops, SubjectStops, source_file, status_of}
+use Rattle.nm_driver.specs.Output.{HasCause, HasText, IsDone, IsDue, IsOfSource, IsReady, Prints, Stops}
+use Rattle.nm_driver.specs.Prepared.{IfSays, IsLined, IsNoMemory, SaysOf, SaysOfSource, SaysOfSubject, fault_file, line_of}
 use Rattle.nm_driver.specs.Tokens.{spellings}
 use Rattle.nm_words.specs.Asked.{Asked, AreWords, Requested, help, request, version}
 use Rattle.nm_words.proofs.OneAnswer.{one_request}
@@ -62,10 +62,10 @@ module _ (told : Option Told) (words : List (List ℕ)) (asked : Requested) (are
   lined_due NoMemory text lined line stops = absurd lined
   lined_due (BadImage n) text lined line stops = record { is_text = line; cause = stops; usage = λ e. absurd (let k : BadImage n ≡ Usage = e in cc); not_usage = λ none. absurd (none (request asked, are)) }
 
-  fault_due : (e : Fault) (known : Known) (text : List ℕ) → asked.mode ≡ Run → (IsNoMemory e → ⊥) → text ≡ answer_line (fault_file known (source_file asked.subject) e) (status_of e)
+  fault_due : (e : Fault) (known : Known) (text : List ℕ) → IsOfSource asked.mode → (IsNoMemory e → ⊥) → text ≡ answer_line (fault_file known (source_file asked.subject) e) (status_of e)
       → ((files : Told) → told ≡ Some files → IsStopped files asked.subject e known) → ((files : Told) → told ≡ Some files → Stops files words (status_of e)) → IsDue told words board (status_of e) text
   fault_due (fault.Refused r) known text runs found line source stops = record {
-    is_text = record { asked = asked; words_are = are; runs = runs; known = known; line = line; source = source };
+    is_text = record { asked = asked; words_are = are; compiles = runs; known = known; line = line; source = source };
     cause = stops;
     usage = λ e. absurd (let k : Refused r ≡ Usage = e in cc);
     not_usage = λ none. absurd (none (request asked, are));
@@ -84,12 +84,19 @@ module _ (told : Option Told) (words : List (List ℕ)) (asked : Requested) (are
   stops_at : (files : Told) (status : Status) → SubjectStops files asked.mode asked.subject status → Stops files words status
   stops_at files status h = record { asked = asked; words_are = are; cause = inl h }
 
-  -- an answer about what is run
-  pub subject_due : (mode : Mode) → asked.mode ≡ mode → (answer : Answer) → SaysOfSubject told mode asked.subject answer → IsDue told words board answer.status (line_of answer)
-  subject_due Run runs answer says =
+  -- an answer about the files of an application
+  source_due : IsOfSource asked.mode → ((files : Told) (status : Status) → SourceStops files asked.subject status → SubjectStops files asked.mode asked.subject status)
+      → (answer : Answer) → SaysOfSource told asked.subject answer → IsDue told words board answer.status (line_of answer)
+  source_due of_source stops answer says =
       subst (λ s. IsDue told words board s (line_of answer)) (sym says.is_status)
-      (fault_due says.cause says.known (line_of answer) runs says.found says.is_line says.source
-      (λ files h. stops_at files (status_of says.cause) (subst (λ m. SubjectStops files m asked.subject (status_of says.cause)) (sym runs) (record { fault = says.cause; known = says.known; stopped = says.source files h; answer = refl }))))
+      (fault_due says.cause says.known (line_of answer) of_source says.found says.is_line says.source
+      (λ files h. stops_at files (status_of says.cause) (stops files (status_of says.cause) (record { fault = says.cause; known = says.known; stopped = says.source files h; answer = refl }))))
+
+  -- an answer about what is asked for
+  pub subject_due : (mode : Mode) → asked.mode ≡ mode → (answer : Answer) → SaysOfSubject told mode asked.subject answer → IsDue told words board answer.status (line_of answer)
+  subject_due Check is answer says = source_due (subst IsOfSource (sym is) tt) (λ files status h. subst (λ m. SubjectStops files m asked.subject status) (sym is) h) answer says
+  subject_due Build is answer says = source_due (subst IsOfSource (sym is) tt) (λ files status h. subst (λ m. SubjectStops files m asked.subject status) (sym is) h) answer says
+  subject_due Run is answer says = source_due (subst IsOfSource (sym is) tt) (λ files status h. subst (λ m. SubjectStops files m asked.subject status) (sym is) h) answer says
   subject_due Mote runs answer says =
       lined_due answer.status (line_of answer) says.lined says.line
       (λ files h. stops_at files answer.status (subst (λ m. SubjectStops files m asked.subject answer.status) (sym runs) (says.cause files h)))
@@ -102,7 +109,9 @@ module _ (told : Option Told) (words : List (List ℕ)) (asked : Requested) (are
 
 -- what prints has its subject
 pub has_subject : (told : Option Told) (files : Told) → told ≡ Some files → (mode : Mode) (name : List ℕ) (board : BoardState) (rows : List Due) (n : ℕ) (text : List ℕ) → Prints told mode name board rows n text → HasSubject files mode name
-has_subject told files h Run name board rows n text prints = (prints.0, prints.2 files h)
+has_subject told files h Check name board rows n text prints = (prints.0.program, prints.0.has files h)
+has_subject told files h Build name board rows n text prints = (prints.0.program, prints.0.has files h)
+has_subject told files h Run name board rows n text prints = (prints.0.program, prints.0.has files h)
 has_subject told files h Mote name board rows n text prints = (prints.0, prints.2 files h)
 
 -- ---- where all is good
@@ -201,6 +210,8 @@ module _ (one : OneExpansion) (told : Told) (app : List ℕ) (writes : List Cons
 
 module _ (one : OneExpansion) (told : Told) where
   not_subject : (mode : Mode) (name : List ℕ) (s : Status) → HasSubject told mode name → SubjectStops told mode name s → (s ≡ ReadFault) ⊎ (s ≡ NoMemory)
+  not_subject Check name s has h = subst (λ x. (x ≡ ReadFault) ⊎ (x ≡ NoMemory)) (sym h.answer) (not_source one told name has.1.writes has.1.source h.fault h.known h.stopped)
+  not_subject Build name s has h = subst (λ x. (x ≡ ReadFault) ⊎ (x ≡ NoMemory)) (sym h.answer) (not_source one told name has.1.writes has.1.source h.fault h.known h.stopped)
   not_subject Run name s has h = subst (λ x. (x ≡ ReadFault) ⊎ (x ≡ NoMemory)) (sym h.answer) (not_source one told name has.1.writes has.1.source h.fault h.known h.stopped)
   not_subject Mote name s has h = inl (not_image told name has.0 s has.1 h)
 

@@ -1,11 +1,10 @@
 -- From the clauses of the top call to what a printed image promises.
 use Rattle.std.proofs.Common.{◌≡◌, List, ℕ, Option, Some, ap, subst, ◌∙◌}
-use Rattle.nm_base.specs.Outside.{FilesSeen, SinkSeen, appended}
+use Rattle.nm_base.specs.Outside.{appended}
 use Rattle.nesc_preproc.specs.Expands.{Told}
 use Rattle.mote_devices.specs.declared.state.BoardState.{BoardState}
 use Rattle.mote_text.specs.ImageLines.{ImageReadsBack}
 use Rattle.nm_words.specs.declared.mode.Mode.TheVariants.{Run}
-use Rattle.nm_driver.specs.declared.status.Status.TheVariants.{Done}
 use Rattle.nm_words.specs.Asked.{Asked, Requested, help, request, version}
 use Rattle.nm_driver.specs.Output.{IsRun, IsTextOf, Prints}
 use Rattle.nm_driver.specs.Headline.{PrintedImageRunsItsSource, RunsItsSource}
@@ -15,22 +14,27 @@ module _ (back : ImageReadsBack) (told : Option Told) (files : Told) (h : told �
   runs : (r : Requested) → r.mode ≡ Run → IsRun told r board text → RunsItsSource files r board text
   runs r mode run =
       let prints = subst (λ m. Prints told m r.subject board run.rows r.budget text) mode run.prints in
-      let printed = prints.1 in
+      let a = prints.0 in
+      let b = prints.1 in
       record {
-        program = prints.0;
-        has = prints.2 files h;
-        code = printed.code;
-        vectors = printed.vectors;
-        ram = printed.ram;
-        stack = printed.stack;
+        program = a.program;
+        has = a.has files h;
+        names = a.names;
+        named = a.named files h;
+        report = a.report;
+        reports = a.reports;
+        code = b.code;
+        vectors = b.vectors;
+        ram = b.ram;
+        stack = b.stack;
         rows = run.rows;
         schedule = run.schedule files h;
         words = run.words;
-        printed = printed.printed;
-        reads_back = back printed.code printed.vectors printed.meets.image;
-        allowed = printed.meets.allowed;
-        bounded = printed.meets.bounded;
-        fits = printed.meets.fits;
+        printed = prints.2;
+        reads_back = back b.code b.vectors b.meets.image;
+        allowed = b.meets.allowed;
+        bounded = b.meets.bounded;
+        fits = b.meets.fits;
       }
 
   pub runs_as : (r : Requested) → r.mode ≡ Run → (asked : Asked) → asked ≡ request r → IsTextOf told asked board text → RunsItsSource files r board text

@@ -1,5 +1,8 @@
 pub mod Causes
 pub mod Compiled
+pub mod Built
+pub mod NoRaces
+pub mod Runs
 pub mod Headline
 pub mod Numerals
 pub mod Reading

@@ -1,5 +1,5 @@
 -- The answer of the top call, by what was prepared and what the sink took.
-use Rattle.std.proofs.Common.{◌≡◌, ◌⊎◌, inl, inr, ⊎_elim, ℕ, List, [], Some, None, refl, sym, ap, subst}
+use Rattle.std.proofs.Common.{◌≡◌, inl, inr, ⊎_elim, ℕ, List, [], Some, None, refl, sym, ap, subst}
 use Rattle.nm_base.specs.Outside.{AppendsPart, FilesSeen, Rose, SinkSeen, appended}
 use Rattle.nesc_preproc.specs.Expands.{Told}
 use Rattle.nesc_preproc.specs.OneExpansion.{OneExpansion}
@@ -8,7 +8,7 @@ use Rattle.nm_driver.specs.declared.answer.Stop.{Stop}
 use Rattle.nm_driver.specs.declared.answer.Stop.TheVariants as stop
 use Rattle.nm_driver.specs.declared.status.Status.{Status}
 use Rattle.nm_driver.specs.declared.status.Status.TheVariants.{Done, Refused, Usage, Missing, ReadFault, WriteFault, BadSchedule, Limit, TooLarge, NoMemory, BadImage}
-use Rattle.nm_driver.specs.Output.{HasText, IfMissing, IsAnswer, IsDone, IsDue, IsOutput, IsReady, IsTextOf, IsUsageOrLess, Wrote}
+use Rattle.nm_driver.specs.Output.{HasText, IfMissing, IsAnswer, IsDone, IsDue, IsOutput, IsReady, IsTextOf, Wrote}
 use Rattle.nm_driver.specs.Prepared.{Ends, IfSays, IsRunStatus, Performs, TakesAnswer, line_of}
 use Rattle.nm_words.specs.Asked.{Asked, AreInUse, help, request, version}
 use Rattle.nm_driver.specs.Lines.{answer_line}

@@ -1,5 +1,5 @@
 -- What a printed image promises: every mote with it does what the application's source allows (own).
-use Rattle.std.specs.Prelude.{◌≡◌, ◌≤◌, ℕ, ◌+◌, List, ◌++◌, Some, Ok}
+use Rattle.std.specs.Prelude.{◌≡◌, ◌≤◌, ℕ, ◌+◌, List, ◌++◌, Option, Some, Ok}
 use Rattle.nm_base.specs.declared.memory_map.TheConstants.{RAM_BYTES, RAM_END}
 use Rattle.nm_base.specs.Outside.{FilesSeen, SinkSeen}
 use Rattle.nesc_preproc.specs.Expands.{Told}
@@ -17,14 +17,19 @@ use Rattle.mote_text.specs.ImageText.{image_text}
 use Rattle.nm_words.specs.declared.mode.Mode.TheVariants.{Run}
 use Rattle.nm_driver.specs.declared.status.Status.TheVariants.{Done}
 use Rattle.nm_words.specs.Asked.{AreWords, Requested, request}
-use Rattle.nm_driver.specs.NamedFiles.{HasProgram, HasSchedule}
-use Rattle.nm_driver.specs.RunText.{run_text}
+use Rattle.nm_driver.specs.NamedFiles.{HasNames, HasProgram, HasSchedule}
+use Rattle.nm_driver.specs.RunText.{IsReportText, run_text}
 use Rattle.nm_driver.specs.Output.{IsAnswer}
 
--- the text has an image of the application's wired program, with its data and stack, and the image's run on a board with the schedule's rows
+-- the text has the report of the application's wired program, an image of it with data and stack, and the image's run on a board with the
+-- schedule's rows
 pub record RunsItsSource (files : Told) (asked : Requested) (board : BoardState) (text : List ℕ) : Type 0 where
   pub program : Program
   pub has : HasProgram files asked.subject program
+  pub names : ℕ → Option (List ℕ)
+  pub named : HasNames files asked.subject names
+  pub report : List ℕ
+  pub reports : IsReportText names program report
   pub code : List ℕ
   pub vectors : List ℕ
   pub ram : ℕ
@@ -32,7 +37,7 @@ pub record RunsItsSource (files : Told) (asked : Requested) (board : BoardState)
   pub rows : List Due
   pub schedule : HasSchedule files asked.schedule rows
   pub words : AreWordRows IsWordGiven rows
-  pub printed : text ≡ run_text code vectors ram stack board rows asked.budget
+  pub printed : text ≡ run_text report code vectors ram stack board rows asked.budget
   -- whoever reads the image's lines runs this image
   pub reads_back : image_of (image_text code vectors) ≡ Ok (image_map code vectors)
   -- on every board of words, with every schedule of words, after every number of slots it has done what some run of the program does, at

@@ -1,5 +1,5 @@
 -- What the files that the words name give, and why one of them stops the call (own).
-use Rattle.std.specs.Prelude.{◌≡◌, ◌<◌, ◌≤◌, ◌⊎◌, ℕ, ◌+◌, List, [], ◌++◌, Option, Some, None, Result, Ok, Err, length, map, codes}
+use Rattle.std.specs.Prelude.{◌≡◌, ◌<◌, ◌≤◌, ◌⊎◌, ℕ, ◌+◌, List, [], ◌++◌, Option, Some, None, Result, Ok, Err, length, map, codes, slice_get}
 use Rattle.nm_base.specs.declared.limit.TheConstants.{MAX_FILE, MAX_SCHEDULE}
 use Rattle.nm_base.specs.declared.limit.Limit.{Limit as LimitOf}
 use Rattle.nm_base.specs.declared.limit.Which.TheVariants as which
@@ -20,7 +20,7 @@ use Rattle.core_meaning.specs.BootBody.{constant_writes_program}
 use Rattle.nm_driver.specs.Form.{HasForm, constant_of}
 use Rattle.nm_driver.specs.declared.form.Constant.{Constant}
 use Rattle.nm_words.specs.declared.mode.Mode.{Mode}
-use Rattle.nm_words.specs.declared.mode.Mode.TheVariants.{Run, Mote}
+use Rattle.nm_words.specs.declared.mode.Mode.TheVariants.{Mote}
 use Rattle.nm_driver.specs.declared.status.Status.{Status}
 use Rattle.nm_driver.specs.declared.status.Status.TheVariants as status
 use Rattle.nm_driver.specs.declared.status.Status.TheVariants.{Missing, ReadFault, BadSchedule, Limit, BadImage}
@@ -124,6 +124,13 @@ pub record HasProgram (told : Told) (app : List ℕ) (program : Program) : Type 
   pub source : IsSource told app writes
   pub is_wired : program ≡ wired app writes
 
+-- the names of the application's files, in the order of reading
+pub record HasNames (told : Told) (app : List ℕ) (names : ℕ → Option (List ℕ)) : Type 0 where
+  pub tokens : List Token
+  pub known : Known
+  pub read : ReadsTo told app (Ok tokens) known
+  pub are : names ≡ slice_get known.names
+
 -- the application's file is read, and has not the form
 pub record IsFormless (told : Told) (app : List ℕ) (known : Known) : Type 0 where
   pub tokens : List Token
@@ -157,9 +164,9 @@ pub record SourceStops (told : Told) (app : List ℕ) (status : Status) : Type 0
 
 -- an application with its wired program, or an image
 abbrev pub HasSubject : Told → Mode → List ℕ → Type 0
-HasSubject told Run app = (program : Program) × HasProgram told app program
 HasSubject told Mote name = (image : ℕ → ℕ) × HasImage told name image
+HasSubject told _ app = (program : Program) × HasProgram told app program
 
 abbrev pub SubjectStops : Told → Mode → List ℕ → Status → Type 0
-SubjectStops told Run app status = SourceStops told app status
 SubjectStops told Mote name status = ImageStops told name status
+SubjectStops told _ app status = SourceStops told app status

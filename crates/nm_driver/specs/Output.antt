@@ -14,11 +14,11 @@ use Rattle.mote_run.specs.RunText.{mote_text}
 use Rattle.nm_words.specs.Asked.{Asked, AreInUse, AreWords, Requested, help, request, version}
 use Rattle.nm_words.specs.Texts.{help_text, version_text}
 use Rattle.nm_driver.specs.Lines.{answer_line}
-use Rattle.nm_driver.specs.RunText.{run_text}
+use Rattle.nm_driver.specs.RunText.{IsReportText, build_text, run_text}
 use Rattle.nm_driver.specs.MeetsProgram.{MeetsProgram}
-use Rattle.nm_driver.specs.NamedFiles.{HasImage, HasProgram, HasSchedule, HasSubject, IsStopped, ScheduleStops, SubjectStops, source_file}
+use Rattle.nm_driver.specs.NamedFiles.{HasImage, HasNames, HasProgram, HasSchedule, HasSubject, IsStopped, ScheduleStops, SubjectStops, source_file}
 use Rattle.nm_words.specs.declared.mode.Mode.{Mode}
-use Rattle.nm_words.specs.declared.mode.Mode.TheVariants.{Run, Mote}
+use Rattle.nm_words.specs.declared.mode.Mode.TheVariants.{Check, Build, Run, Mote}
 use Rattle.nm_driver.specs.declared.status.Status.{Status}
 use Rattle.nm_driver.specs.declared.status.Status.TheVariants.{Done, Refused, Usage, Missing, ReadFault, WriteFault, NoMemory}
 
@@ -70,19 +70,31 @@ IsUsageOrLess _ = ⊥
 
 -- ---- texts
 
--- the text is that of an image that does what the program allows, and of its own run on a board, with these rows, in so many slots
-pub record IsRunText (program : Program) (board : BoardState) (rows : List Due) (budget : ℕ) (text : List ℕ) : Type 0 where
+-- the wired program of an application, and the text of its report; the files have that program and these names, where they are told
+pub record Reported (told : Option Told) (app : List ℕ) : Type 0 where
+  pub program : Program
+  pub names : ℕ → Option (List ℕ)
+  pub report : List ℕ
+  pub reports : IsReportText names program report
+  pub has : (files : Told) → told ≡ Some files → HasProgram files app program
+  pub named : (files : Told) → told ≡ Some files → HasNames files app names
+
+-- an image that does what the program allows, with its data and stack
+pub record Built (program : Program) : Type 0 where
   pub code : List ℕ
   pub vectors : List ℕ
   pub ram : ℕ
   pub stack : ℕ
-  pub printed : text ≡ run_text code vectors ram stack board rows budget
   pub meets : MeetsProgram program code vectors ram stack
 
--- a run of an application, or of an image, prints this; the files have them, where they are told
+-- a mode prints this of an application: its report, and behind it an image that does what the program allows, and behind that the trace of this
+-- image on a board, with these rows, in so many slots; or it prints the trace of the image of a file
 abbrev pub Prints : Option Told → Mode → List ℕ → BoardState → List Due → ℕ → List ℕ → Type 0
+Prints told Check app board rows budget text = (a : Reported told app) × (text ≡ a.report)
+Prints told Build app board rows budget text =
+    (a : Reported told app) × (b : Built a.program) × (text ≡ build_text a.report b.code b.vectors b.ram b.stack)
 Prints told Run app board rows budget text =
-    (program : Program) × IsRunText program board rows budget text × ((files : Told) → told ≡ Some files → HasProgram files app program)
+    (a : Reported told app) × (b : Built a.program) × (text ≡ run_text a.report b.code b.vectors b.ram b.stack board rows budget)
 Prints told Mote name board rows budget text =
     (image : ℕ → ℕ) × (text ≡ mote_text image board rows budget) × ((files : Told) → told ≡ Some files → HasImage files name image)
 
@@ -108,11 +120,16 @@ pub record IsOutput (told : Option Told) (words : List (List ℕ)) (board : Boar
 abbrev pub file_of : Known → List ℕ → Refusal → List ℕ
 file_of known file r = unwrap_or (slice_get known.names (refusal_pos r).file) file
 
+-- a mode that reads an application
+abbrev pub IsOfSource : Mode → Type 0
+IsOfSource Mote = ⊥
+IsOfSource _ = Unit {0}
+
 -- the line of a refusal, with the name of its file
 pub record IsRefusalLine (told : Option Told) (words : List (List ℕ)) (r : Refusal) (text : List ℕ) : Type 0 where
   pub asked : Requested
   pub words_are : AreWords words (request asked)
-  pub runs : asked.mode ≡ Run
+  pub compiles : IsOfSource asked.mode
   pub known : Known
   pub line : text ≡ answer_line (file_of known (source_file asked.subject) r) (Refused r)
   pub source : (files : Told) → told ≡ Some files → IsStopped files asked.subject (fault.Refused r) known

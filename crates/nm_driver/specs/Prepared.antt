@@ -1,6 +1,5 @@
 -- What is found before anything is written (own).
-use Rattle.std.specs.Prelude.{◌≡◌, ◌≤◌, ◌⊎◌, ℕ, List, [], ◌++◌, Option, Some, None, Result, IfErr, codes, length, map, string_bytes, unwrap_or}
-use Rattle.std.specs.List.{AllByRecursion}
+use Rattle.std.specs.Prelude.{◌≡◌, ◌⊎◌, ℕ, List, [], ◌++◌, Option, Some, None, Result, IfErr, map, string_bytes, unwrap_or}
 use Rattle.nm_base.specs.declared.fault.Fault.{Fault}
 use Rattle.nm_base.specs.declared.fault.Fault.TheVariants as fault
 use Rattle.nm_base.specs.Outside.{AppendsPart, FilesSeen, IsReadBy, Rose, SinkSeen, appended}
@@ -17,18 +16,20 @@ use Rattle.nm_driver.specs.declared.answer.Answer.{Answer}
 use Rattle.nm_driver.specs.declared.answer.Stop.{Stop}
 use Rattle.nm_driver.specs.declared.answer.Stop.TheVariants as stop
 use Rattle.nm_driver.specs.declared.form.Constant.{Constant}
+use Rattle.nm_driver.specs.declared.subject.Built.{Built}
 use Rattle.nm_driver.specs.declared.subject.Head.{Head}
 use Rattle.nm_driver.specs.declared.subject.Subject.{Subject}
 use Rattle.nm_driver.specs.declared.prepared.Prepared.{Prepared}
 use Rattle.mote_text.specs.declared.text_fault.TextFault.{TextFault}
 use Rattle.mote_text.specs.declared.text_fault.TextFault.TheVariants as text
 use Rattle.nm_words.specs.declared.mode.Mode.{Mode}
-use Rattle.nm_words.specs.declared.mode.Mode.TheVariants.{Run, Mote}
+use Rattle.nm_words.specs.declared.mode.Mode.TheVariants.{Mote}
 use Rattle.nm_driver.specs.declared.status.Status.{Status}
 use Rattle.nm_driver.specs.declared.status.Status.TheVariants.{Done, Missing, ReadFault, WriteFault, BadSchedule, Limit, NoMemory, BadImage}
 use Rattle.nm_driver.specs.Lines.{answer_line}
 use Rattle.nm_driver.specs.Form.{constant_of}
 use Rattle.nm_driver.specs.NamedFiles.{ImageStops, IsStopped, source_file, status_of, wired}
+use Rattle.nm_driver.specs.RunText.{trace_line}
 use Rattle.nm_driver.specs.Output.{IfMissing, Prints, file_of}
 
 -- ---- answers
@@ -103,24 +104,43 @@ pub record SaysOfSource (told : Option Told) (app : List ℕ) (answer : Answer) 
   pub source : (files : Told) → told ≡ Some files → IsStopped files app cause known
 
 abbrev pub SaysOfSubject : Option Told → Mode → List ℕ → Answer → Type 0
-SaysOfSubject told Run app answer = SaysOfSource told app answer
 SaysOfSubject told Mote name answer = SaysOf told (λ files. ImageStops files name) answer
+SaysOfSubject told _ app answer = SaysOfSource told app answer
 
 -- ---- a run
 
--- what is printed before the trace
+-- the sizes of what was built, and its image
+abbrev pub built_bytes : Option Built → List ℕ
+built_bytes None = []
+built_bytes (Some built) = string_bytes built.sizes ++ image_text built.image.code.items built.image.vectors
+
+-- what is printed of an application before its trace
 abbrev pub head_bytes : Option Head → List ℕ
 head_bytes None = []
-head_bytes (Some head) = (string_bytes head.sizes ++ image_text head.image.code.items head.image.vectors) ++ codes "trace\n"
+head_bytes (Some head) = head.report.items ++ built_bytes head.built
 
--- what a run of it prints, on any board
+-- the line between that and the trace
+abbrev pub line_before : Option Head → List ℕ
+line_before None = []
+line_before (Some head) = trace_line
+
+-- what is printed of a run, where something is run
+abbrev pub run_bytes : Option Head → Option (List ℕ) → BoardState → List Due → ℕ → List ℕ
+run_bytes head None board rows n = []
+run_bytes head (Some image) board rows n = line_before head ++ mote_text (bytes_map image) board rows n
+
+-- what is printed of it, on any board
 abbrev pub PrintsAs : Option Told → Mode → List ℕ → Subject → Type 0
 PrintsAs told mode name subject =
-    (board : BoardState) (rows : List Due) (budget : ℕ) → Prints told mode name board rows budget (head_bytes subject.head ++ mote_text (bytes_map subject.image) board rows budget)
+    (board : BoardState) (rows : List Due) (budget : ℕ) → Prints told mode name board rows budget (head_bytes subject.head ++ run_bytes subject.head subject.image board rows budget)
 
--- what a prepared run prints on a board
+-- what a prepared run of this image prints on a board
+abbrev pub run_text_on : BoardState → Prepared → List ℕ → List ℕ
+run_text_on board p image = head_bytes p.subject.head ++ run_bytes p.subject.head (Some image) board p.rows.items p.budget
+
+-- what is printed on a board
 abbrev pub text_on : BoardState → Prepared → List ℕ
-text_on board p = head_bytes p.subject.head ++ mote_text (bytes_map p.subject.image) board p.rows.items p.budget
+text_on board p = head_bytes p.subject.head ++ run_bytes p.subject.head p.subject.image board p.rows.items p.budget
 
 -- a sink has taken an answer's text or a part of it, or there was no memory for it
 abbrev pub TakesAnswer : Status → Status → SinkSeen → SinkSeen → List ℕ → Type 0

@@ -1,19 +1,34 @@
--- What a run prints: the report, the bytes of data and of stack, the image, and the trace of its run (own).
-use Rattle.std.specs.Prelude.{ℕ, List, [], ◌∷◌, ◌++◌, codes, decimal}
+-- What is printed of an application: the report, the bytes of data and of stack, the image, and the trace of its run (own).
+use Rattle.std.specs.Prelude.{◌≡◌, ℕ, List, [], ◌∷◌, ◌++◌, Option, codes, decimal}
 use Rattle.mote_devices.specs.declared.state.BoardState.{BoardState}
 use Rattle.mote_devices.specs.declared.shown.Due.{Due}
+use Rattle.nesc_core.specs.Plain.{Program}
+use Rattle.race_checker.specs.declared.row.Row.{Row}
+use Rattle.race_checker.specs.Report.{IsReport}
+use Rattle.race_text.specs.Text.{report_text}
 use Rattle.msp_isa.specs.Image.{image_map}
 use Rattle.mote_text.specs.ImageText.{image_text}
 use Rattle.mote_run.specs.RunText.{mote_text}
 
--- an empty report, and the bytes of data and stack
-abbrev pub sizes_text : ℕ → ℕ → List ℕ
-sizes_text ram stack = codes "races 0" ++ (10 ∷ (codes "data " ++ (decimal ram ++ (10 ∷ (codes "stack " ++ (decimal stack ++ 10 ∷ []))))))
+-- the text of a program's race report, given the names of the files
+pub record IsReportText (names : ℕ → Option (List ℕ)) (program : Program) (text : List ℕ) : Type 0 where
+  pub rows : List Row
+  pub report : IsReport program rows
+  pub printed : text ≡ report_text names program rows
 
--- what stands before the trace
-abbrev pub head_text : List ℕ → List ℕ → ℕ → ℕ → List ℕ
-head_text code vectors ram stack = (sizes_text ram stack ++ image_text code vectors) ++ (codes "trace" ++ 10 ∷ [])
+-- the bytes of data and stack
+abbrev pub sizes_text : ℕ → ℕ → List ℕ
+sizes_text ram stack = codes "data " ++ (decimal ram ++ (10 ∷ (codes "stack " ++ (decimal stack ++ 10 ∷ []))))
+
+-- a report, sizes, and an image
+abbrev pub build_text : (report : List ℕ) → List ℕ → List ℕ → ℕ → ℕ → List ℕ
+build_text report code vectors ram stack = report ++ (sizes_text ram stack ++ image_text code vectors)
+
+-- the line before a trace
+abbrev pub trace_line : List ℕ
+trace_line = codes "trace" ++ 10 ∷ []
 
 -- with the trace of the image in n slots, on a board, with the rows of a schedule
-abbrev pub run_text : List ℕ → List ℕ → ℕ → ℕ → BoardState → List Due → ℕ → List ℕ
-run_text code vectors ram stack board rows n = head_text code vectors ram stack ++ mote_text (image_map code vectors) board rows n
+abbrev pub run_text : (report : List ℕ) → List ℕ → List ℕ → ℕ → ℕ → BoardState → List Due → ℕ → List ℕ
+run_text report code vectors ram stack board rows n =
+    build_text report code vectors ram stack ++ (trace_line ++ mote_text (image_map code vectors) board rows n)

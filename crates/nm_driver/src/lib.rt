@@ -8,6 +8,7 @@ mod form;
 mod laws;
 mod number;
 mod prepared;
+mod report;
 mod source;
 mod status;
 mod subject;

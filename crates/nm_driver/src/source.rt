@@ -2,10 +2,11 @@
 
 ghost use Rattle.std.specs.Prelude.{◌≡◌, ℕ, List, [], Some, IfOk, IfErr, unwrap_or};
 ghost use Rattle.nesc_preproc.specs.Expands.{Told};
+ghost use Rattle.nesc_preproc.specs.Kept.{name_at};
 ghost use Rattle.nesc_core.specs.View.{program_of};
 ghost use Rattle.nm_driver.specs.Form.{HasForm};
 ghost use Rattle.nm_driver.specs.Lines.{answer_line};
-ghost use Rattle.nm_driver.specs.NamedFiles.{HasProgram, IsSource, later, status_of};
+ghost use Rattle.nm_driver.specs.NamedFiles.{HasNames, HasProgram, IsSource, later, status_of};
 ghost use Rattle.nm_driver.specs.Prepared.{IfSays, IsApplication, IsNoMemory, Reads, SaysOfSource, fault_file, known_in, line_of};
 
 use crate::answer::{Answer, Stop};
@@ -74,11 +75,26 @@ pub(crate) fn says_fault(file: Option<Name>, fault: Fault) -> Stop
     })
 }
 
+/// The wired program of an application, and the files that were read for it.
+#[derive(Drop)]
+pub(crate) struct Application {
+    pub program: Program,
+    pub reading: Reading,
+}
+
+// The writes of an application, and the files that were read for it.
+#[derive(Drop)]
+struct Source {
+    writes: Vec<Constant>,
+    reading: Reading,
+}
+
 // The writes of an application, whose file is `app.nc`, where it has the form.
-fn read_writes<F: Files>(alloc: Global, files: &mut F, app: &str) -> Result<Vec<Constant>, Stop>
+fn read_writes<F: Files>(alloc: Global, files: &mut F, app: &str) -> Result<Source, Stop>
     ensures outside { Reads result (F.seen files.old) (F.seen files.new) }
-    ensures form { IfOk result (λ ws. (tokens : List (List ℕ)) × HasForm app.now tokens ws.items) }
-    ensures writes { IfOk result (λ ws. (told : Told) → (F.seen files.old).texts ≡ Some told → IsSource told app.now ws.items) }
+    ensures form { IfOk result (λ s. (tokens : List (List ℕ)) × HasForm app.now tokens s.writes.items) }
+    ensures writes { IfOk result (λ s. (told : Told) → (F.seen files.old).texts ≡ Some told → IsSource told app.now s.writes.items) }
+    ensures names { IfOk result (λ s. (told : Told) → (F.seen files.old).texts ≡ Some told → HasNames told app.now (name_at s.reading)) }
     ensures says { IfErr result (λ s. IfSays s (SaysOfSource (F.seen files.old).texts app.now)) }
 {
     let file = format!(in alloc; "{app}.nc")?;
@@ -89,7 +105,7 @@ fn read_writes<F: Files>(alloc: Global, files: &mut F, app: &str) -> Result<Vec<
         Err(fault) => return Err(says_fault(fault_file(&reading, file, &fault)?, fault)),
     };
     match writes_of(alloc, app, &tokens)? {
-        Some(writes) => Ok(writes),
+        Some(writes) => Ok(Source { writes, reading }),
         None => {
             let fault = later();
             Err(says_fault(fault_file(&reading, file, &fault)?, fault))
@@ -102,13 +118,17 @@ pub(crate) fn read_application<F: Files>(
     alloc: Global,
     files: &mut F,
     app: &str,
-) -> Result<Program, Stop>
+) -> Result<Application, Stop>
     ensures outside { Reads result (F.seen files.old) (F.seen files.new) }
-    ensures wired { IfOk result (λ p. IsApplication (program_of p)) }
-    ensures program { IfOk result (λ p. (told : Told) → (F.seen files.old).texts ≡ Some told → HasProgram told app.now (program_of p)) }
+    ensures wired { IfOk result (λ a. IsApplication (program_of a.program)) }
+    ensures program { IfOk result (λ a. (told : Told) → (F.seen files.old).texts ≡ Some told → HasProgram told app.now (program_of a.program)) }
+    ensures names { IfOk result (λ a. (told : Told) → (F.seen files.old).texts ≡ Some told → HasNames told app.now (name_at a.reading)) }
     ensures says { IfErr result (λ s. IfSays s (SaysOfSource (F.seen files.old).texts app.now)) }
 {
-    let writes = read_writes(alloc, files, app)?;
-    let program = wired_program(alloc, app, &writes)?;
-    Ok(program)
+    let source = read_writes(alloc, files, app)?;
+    let program = wired_program(alloc, app, &source.writes)?;
+    Ok(Application {
+        program,
+        reading: source.reading,
+    })
 }

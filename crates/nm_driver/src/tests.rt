@@ -56,6 +56,12 @@ trace
 end slots 10000 ran 181 sp 38b8 off 1
 ";
 
+const BUILD_END: &str = "@FFE0
+12 48 4A 48 82 48 BA 48 F2 48 2A 49 62 49 9A 49
+02 48 02 48 02 48 02 48 02 48 02 48 02 48 02 48
+q
+";
+
 const NO_TRACE: &str = "q
 trace
 end slots 0 ran 0 sp 3900 off 0
@@ -185,7 +191,12 @@ fn answer(
 // Words, the status, and the text: a whole line or trace, or how a run's text begins and how it ends.
 type Case<'a> = (&'a [&'a str], u8, [&'a str; 2]);
 
-const CASES: [Case; 37] = [
+const CASES: [Case; 42] = [
+    (&["check", "OneC"], 0, ["races 0\n", ""]),
+    (&["check", "CommentedC"], 0, ["races 0\n", ""]),
+    (&["build", "OneC"], 0, [FIRST_IMAGE, BUILD_END]),
+    (&["build", "OneC", "none.txt"], 2, [USAGE, ""]),
+    (&["check", "LoopC"], 1, ["refused E05 loop.h:2:2\n", ""]),
     (&["run", "OneC", "none.txt"], 0, [FIRST_IMAGE, FIRST_TRACE]),
     (&["run", "OneC", "blank.txt"], 0, [FIRST_IMAGE, FIRST_TRACE]),
     (

@@ -1,31 +1,31 @@
 //! The top call: from the words of a command line to what is written.
 
-ghost use Rattle.std.specs.Prelude.{◌≡◌, ◌≤◌, ℕ, List, map, string_bytes, vec_len};
+ghost use Rattle.std.specs.Prelude.{◌≡◌, ◌≤◌, ◌++◌, ℕ, List, map, string_bytes, vec_len};
 ghost use Rattle.nm_base.specs.Outside.{Writes};
 ghost use Rattle.mote_bus.specs.Slots.{board_of};
-ghost use Rattle.msp_isa.specs.Image.{bytes_map};
 ghost use Rattle.mote_run.specs.Held.{IsFresh, board_in, image_in};
 ghost use Rattle.mote_run.specs.Rows.{DoNotFall};
+ghost use Rattle.mote_run.specs.RunText.{mote_text};
 ghost use Rattle.nm_words.specs.Asked.{AreWords, request, requested};
 ghost use Rattle.nm_driver.specs.Output.{IsAnswer};
-ghost use Rattle.nm_driver.specs.Prepared.{Ends, IsRunStatus, Performs, head_bytes, text_on};
+ghost use Rattle.nm_driver.specs.Prepared.{Ends, IsRunStatus, Performs, built_bytes, head_bytes, line_before, run_text_on, text_on};
 
 use crate::answer::{Stop, line_of, says};
 use crate::prepared::{Prepared, prepare};
 use crate::status::Status;
-use crate::subject::Head;
+use crate::subject::{Built, Head};
 use mote_bus::Board;
-use mote_devices::Device;
+use mote_devices::{Device, Due};
 use mote_run::{AsMote, BoardMote, MoteOf};
-use mote_text::print_image;
+use mote_text::{Loaded, print_image};
 use nesc_preproc::one_expansion;
 use nm_base::{Files, Sink, WriteFault, write_all};
 use nm_words::{Asked, HELP, Request, VERSION, WordsFault, asked_by};
 use std::alloc::Global;
 
 /// Does what the words behind the program's name ask for, on a mote with these devices in its first slots, at most eight:
-/// `run APP SCHEDULE` compiles the application of the file `APP.nc`, prints its image and runs it; `mote IMAGE SCHEDULE`
-/// runs an image that stands in a file. `--budget N` is the number of slots, 10,000 where it is left out. `--help` and
+/// `check APP` prints the race report of the application of the file `APP.nc`, `build APP` prints its image behind that, and
+/// `run APP SCHEDULE` runs the image as well; `mote IMAGE SCHEDULE` runs an image that stands in a file. `--budget N` is the number of slots, 10,000 where it is left out. `--help` and
 /// `--version` print their texts.
 pub fn tool<F: Files, S: Sink>(
     alloc: Global,
@@ -92,7 +92,7 @@ fn write_answer<S: Sink>(alloc: Global, stop: Stop, out: &mut S) -> Status
     }
 }
 
-// Runs a prepared run on its board, and writes what it prints.
+// Writes what is printed of an application, and runs what is run on this board.
 fn perform<S: Sink>(
     alloc: Global,
     prepared: &Prepared,
@@ -104,13 +104,53 @@ fn perform<S: Sink>(
     ensures kind { IsRunStatus result }
     ensures wrote { Performs result (S.seen out.old) (S.seen out.new) (text_on (board_of (map ⟦<Box<dyn Device> as Device>⟧.state board.items)) prepared.now) }
 {
-    let Ok(mut mote) = BoardMote::load(alloc, &prepared.subject.image, Board::new(board)) else {
+    match &prepared.subject.image {
+        Some(image) => run_image(alloc, prepared, image, board, out),
+        None => match write_head(&prepared.subject.head, out) {
+            Ok(()) => Status::Done,
+            Err(WriteFault) => Status::WriteFault,
+        },
+    }
+}
+
+// Runs an image on its board, behind what is printed before.
+fn run_image<S: Sink>(
+    alloc: Global,
+    prepared: &Prepared,
+    image: &Loaded,
+    board: Vec<Box<dyn Device>>,
+    out: &mut S,
+) -> Status
+    requires devices { vec_len board ≤ 8 }
+    requires order { DoNotFall prepared.now.rows.items }
+    ensures kind { IsRunStatus result }
+    ensures wrote { Performs result (S.seen out.old) (S.seen out.new) (run_text_on (board_of (map ⟦<Box<dyn Device> as Device>⟧.state board.items)) prepared.now image.now) }
+{
+    let Ok(mut mote) = BoardMote::load(alloc, image, Board::new(board)) else {
         return Status::NoMemory;
     };
-    match write_run(prepared, &mut mote, out) {
+    let rows = prepared.rows.as_slice();
+    match write_run(
+        &prepared.subject.head,
+        &mut mote,
+        rows,
+        prepared.budget,
+        out,
+    ) {
         Ok(()) => Status::Done,
         Err(WriteFault) => Status::WriteFault,
     }
+}
+
+// The sizes of what was built, and its image.
+fn write_built<S: Sink>(built: &Option<Built>, out: &mut S) -> Result<(), WriteFault>
+    ensures { Writes result (S.seen out.old) (S.seen out.new) (built_bytes built.now) }
+{
+    let Some(built) = built else {
+        return Ok(());
+    };
+    write_all(out, built.sizes.as_bytes())?;
+    print_image(&built.image, out)
 }
 
 // What stands before the trace, where something does.
@@ -120,23 +160,35 @@ fn write_head<S: Sink>(head: &Option<Head>, out: &mut S) -> Result<(), WriteFaul
     let Some(head) = head else {
         return Ok(());
     };
-    write_all(out, head.sizes.as_bytes())?;
-    print_image(&head.image, out)?;
-    write_all(out, b"trace\n")
+    write_all(out, head.report.as_slice())?;
+    write_built(&head.built, out)
+}
+
+// The line between that and the trace.
+fn write_line<S: Sink>(head: &Option<Head>, out: &mut S) -> Result<(), WriteFault>
+    ensures { Writes result (S.seen out.old) (S.seen out.new) (line_before head.now) }
+{
+    match head {
+        Some(_) => write_all(out, b"trace\n"),
+        None => Ok(()),
+    }
 }
 
 // What stands before the trace, and the trace.
 fn write_run<S: Sink, D: Device>(
-    prepared: &Prepared,
+    head: &Option<Head>,
     mote: &mut MoteOf<D>,
+    rows: &[Due],
+    budget: u32,
     out: &mut S,
 ) -> Result<(), WriteFault>
     requires fresh { IsFresh (⟦<MoteOf<D> as AsMote>⟧.held mote.old) }
-    requires image { image_in (⟦<MoteOf<D> as AsMote>⟧.held mote.old) ≡ bytes_map prepared.now.subject.image }
-    requires order { DoNotFall prepared.now.rows.items }
-    ensures { Writes result (S.seen out.old) (S.seen out.new) (text_on (board_in (⟦<MoteOf<D> as AsMote>⟧.held mote.old)) prepared.now) }
+    requires order { DoNotFall rows.now }
+    ensures { Writes result (S.seen out.old) (S.seen out.new) (head_bytes head.now ++ (line_before head.now
+        ++ mote_text (image_in (⟦<MoteOf<D> as AsMote>⟧.held mote.old)) (board_in (⟦<MoteOf<D> as AsMote>⟧.held mote.old)) rows.now budget)) }
 {
-    write_head(&prepared.subject.head, out)?;
-    mote.run(&prepared.rows, prepared.budget, out)?;
+    write_head(head, out)?;
+    write_line(head, out)?;
+    mote.run(rows, budget, out)?;
     Ok(())
 }

@@ -8,7 +8,7 @@ use Rattle.nm_driver.specs.Lines.{answer_line}
 use Rattle.nm_driver.specs.NamedFiles.{later, source_file, status_of}
 use Rattle.nm_driver.specs.Tokens.{spellings}
 use Rattle.nm_driver.proofs.Causes.{if_says_three}
-use Rattle.nm_driver.proofs.Reading.{reads_fault, reads_tokens}
+use Rattle.nm_driver.proofs.Reading.{names_known, reads_fault, reads_tokens}
 use Rattle.nm_driver.proofs.source.read_writes.Goals as goal
 
 pub returns-in-Err-clause-says : goal.returns-in-Err-clause-says
@@ -40,6 +40,19 @@ returns-in-Some-clause-writes g c told h =
       read = subst (λ n. Expands told (Some nothing_known) n (Ok tokens) (Some known)) file
           (reads_tokens told c.in_ok-file-2.file tokens c.expand.new.state (rw c.new-reading.ensures at c.in-Ok.ensures.expanded told h));
       form = rw spelled at (rw c.in-Some.is at c.in_ok-writes.ensures);
+    }
+
+pub returns-in-Some-clause-names : goal.returns-in-Some-clause-names
+returns-in-Some-clause-names g c told h =
+    let file : c.in_ok-file-2.file ≡ source_file c.args.app.now = c.in_ok-file-2.ensures ∙ c.as_bytes.ensures.value ∙ c.in_ok-file.ensures.ok in
+    let tokens = c.in-Ok.tokens.items in
+    let expanded = rw c.new-reading.ensures at c.in-Ok.ensures.expanded told h in
+    record {
+      tokens = tokens;
+      known = known_in c.expand.new.state;
+      read = subst (λ n. Expands told (Some nothing_known) n (Ok tokens) (Some (known_in c.expand.new.state))) file
+          (reads_tokens told c.in_ok-file-2.file tokens c.expand.new.state expanded);
+      are = names_known told c.in_ok-file-2.file tokens c.expand.new.state expanded;
     }
 
 pub returns-clause-says : goal.returns-clause-says

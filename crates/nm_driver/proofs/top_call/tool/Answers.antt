@@ -1,4 +1,4 @@
-use Rattle.std.proofs.Common.{◌≡◌, map, refl, string_bytes}
+use Rattle.std.proofs.Common.{map, refl, string_bytes}
 use Rattle.nm_words.specs.Asked.{AreWords, help, version}
 use Rattle.nm_words.specs.Texts.{help_text, version_text}
 use Rattle.nm_driver.proofs.Written.{not_in_use, ran}

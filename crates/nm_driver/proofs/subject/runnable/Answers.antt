@@ -1,0 +1,30 @@
+use Rattle.std.proofs.Common.{◌++◌, List, ℕ, sym, ap, ◌∙◌}
+use Rattle.msp_isa.specs.Image.{bytes_map}
+use Rattle.mote_text.specs.ImageText.{image_text}
+use Rattle.mote_run.specs.RunText.{mote_text}
+use Rattle.nm_driver.specs.RunText.{build_text, sizes_text, trace_line}
+use Rattle.nm_driver.proofs.Built.{meets_same}
+use Rattle.nm_driver.proofs.subject.runnable.Goals as goal
+
+pub returns-clause-prints : goal.returns-clause-prints
+returns-clause-prints g c = λ board rows budget.
+    let r = c.in_ok-reported.ensures.reported in
+    let report = c.in_ok-reported.reported.report.items in
+    let built = c.in_ok-built.built in
+    let code = built.image.code.items in
+    let vectors = built.image.vectors in
+    let lines : List ℕ = image_text code vectors in
+    let loaded : List ℕ = c.in_ok-image.image in
+    let trace : List ℕ = trace_line ++ mote_text (bytes_map loaded) board rows budget in (
+      r.0,
+      record {
+        code = code;
+        vectors = vectors;
+        ram = built.image.ram;
+        stack = built.image.stack;
+        meets = meets_same r.0.program _ code vectors built.image.ram built.image.stack r.1 c.in_ok-built.ensures.meets;
+      },
+      ap (λ (s : List ℕ). (report ++ (s ++ lines)) ++ trace) c.in_ok-built.ensures.sizes
+          ∙ ap (λ (s : List ℕ). (s ++ (sizes_text built.image.ram built.image.stack ++ lines)) ++ trace) (sym r.2)
+          ∙ ap (λ m. build_text r.0.report code vectors built.image.ram built.image.stack ++ (trace_line ++ mote_text m board rows budget)) c.in_ok-image.ensures,
+    )
