@@ -1,6 +1,6 @@
 -- What one task leaves to be done.
 use Rattle.std.specs.Prelude.{◌≡◌, ◌<◌, ◌≤◌, ◌+◌, ◌-◌, ℕ, ℤ, List, ◌∷◌, Option, Some}
-use Rattle.nm_base.specs.declared.action.Action.{Action}
+use Rattle.nm_base.specs.Behaviour.{Performed}
 use Rattle.nesc_core.specs.Plain.{Body, Expr, Place, Stmt}
 use Rattle.core_meaning.specs.declared.access.Where.{Where}
 use Rattle.core_meaning.specs.declared.flow.Flow.{Flow}
@@ -47,7 +47,7 @@ pub record Moves (s : Scope) (task : Task) (ts : List Task) (vs : List ℤ) (fs 
   pub falls : steps_left s ts' < steps_left s (task ∷ ts)
 
 -- all that a machine does
-abbrev pub all_of : Machine → List Action
+abbrev pub all_of : Machine → Performed
 all_of m = all_actions m.log (remaining m.scope m.tasks m.values m.places m.flows m.locals.items)
 
 pub record IsSafe (m : Machine) : Type 0 where

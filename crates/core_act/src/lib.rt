@@ -23,5 +23,5 @@ mod stack;
 mod task;
 mod turns;
 
-pub use actions::act;
+pub use actions::{Performance, act, performed};
 pub use law::actions_grow;

@@ -1,6 +1,7 @@
 //! What a machine does, one task after the other.
 
 ghost use Rattle.core_act.specs.Moves.{Goes, IsReady, IsSafe, all_of};
+ghost use Rattle.core_act.specs.Told.{done_by};
 ghost use Rattle.std.specs.Prelude.{◌≡◌, OnOk};
 
 use crate::calls::{go_back, keep, pass, take_argument};
@@ -17,7 +18,7 @@ use nm_base::NoMemory;
 /// Does all that is left.
 pub(crate) fn finish(m: &mut Machine<'_>) -> Result<(), NoMemory>
     requires { IsSafe m.old }
-    ensures { OnOk result (m.new.log.did.items ≡ all_of m.old) }
+    ensures { OnOk result (done_by m.new.log ≡ all_of m.old) }
 {
     while !m.log.over {
         match m.tasks.pop() {
