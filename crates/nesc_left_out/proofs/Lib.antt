@@ -1,0 +1,4 @@
+pub mod Told
+pub mod FromPlace
+pub mod Faults
+pub mod Stands
