@@ -19,6 +19,3 @@ mod wired;
 pub use laws::printed_image_runs_its_source;
 pub use status::Status;
 pub use top_call::tool;
-
-#[cfg(test)]
-mod tests;
