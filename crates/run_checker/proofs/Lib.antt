@@ -1,0 +1,9 @@
+pub mod Alike
+pub mod Agreeing
+pub mod Kept
+pub mod Knowing
+pub mod DeviceLemmas
+pub mod BoardLemmas
+pub mod StoreLemmas
+pub mod Reaches
+pub mod Starting

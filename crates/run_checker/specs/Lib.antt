@@ -1,0 +1,5 @@
+pub mod Tells
+pub mod Boards
+pub mod Contexts
+pub mod States
+pub mod Checking
