@@ -26,7 +26,7 @@ module _ {State : Type 0} where
 
     follow_computes : (f : Reading State) (R : Reader State) → Computes f R → (known : List Name) (found : Result (List Need) Fault) (after : State) (answer : Answer State) → follow f known (found, after) ≡ Some answer → Follows R known after found answer
     follow_computes f R h known (Ok needs) after answer e = each_computes f R h needs known after answer e
-    follow_computes f R h known (Err x) after answer e = sym (same_Some (Err x) answer e)
+    follow_computes f R h known (Err x) after answer e = sym (same_Some (Err (x, after)) answer e)
 
     read_computes : (levels : ℕ) → Computes (read opens levels) (ReadAt (opening opens) levels)
     read_computes zero need known s answer e = by_test (is_known known need.name) known s answer None ⊥ (λ x. absurd cc) e

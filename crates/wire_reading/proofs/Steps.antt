@@ -61,9 +61,9 @@ module _ {State : Type 0} where
     pub passed : (need : Need) (rest : List Need) (known : List Name) (s : State) (answer : Answer State) → is_known known need.name ≡ true → ReadAll Opens rest known s answer → ReadAll Opens (need ∷ rest) known s answer
     passed need rest known s answer e r = (r.0, (Ok (known, s), known_at r.0 need known s e, r.1))
 
-    pub refused : (need : Need) (rest : List Need) (known : List Name) (s after : State) (f : Fault) → is_known known need.name ≡ false → Opens s need (Err f) after → ReadAll Opens (need ∷ rest) known s (Err f)
+    pub refused : (need : Need) (rest : List Need) (known : List Name) (s after : State) (f : Fault) → is_known known need.name ≡ false → Opens s need (Err f) after → ReadAll Opens (need ∷ rest) known s (Err (f, after))
     refused need rest known s after f e o =
-        (suc zero, (Err f, unless_new (is_known known need.name) known s (Err f) (Opened Opens (ReadAt Opens zero) need known s (Err f)) e (Err f, after, o, refl), refl))
+        (suc zero, (Err (f, after), unless_new (is_known known need.name) known s (Err (f, after)) (Opened Opens (ReadAt Opens zero) need known s (Err (f, after))) e (Err f, after, o, refl), refl))
 
     goes_more : (l : ℕ) (rest : List Need) (first answer : Answer State) → Goes (Each (ReadAt Opens l) rest) first answer → Goes (Each (ReadAt Opens (suc l)) rest) first answer
     goes_more l rest (Ok p) answer g = each_within (ReadAt Opens l) (ReadAt Opens (suc l)) (level_more l) rest p.0 p.1 answer g

@@ -25,7 +25,7 @@ each one (need ∷ needs) known s = go_on (one need known s) (each one needs)
 
 abbrev pub follow : {State : Type 0} → Reading State → List Name → Result (List Need) Fault × State → Option (Answer State)
 follow inner known (Ok needs, after) = each inner needs known after
-follow inner known (Err e, after) = Some (Err e)
+follow inner known (Err e, after) = Some (Err (e, after))
 
 abbrev pub unless : {State : Type 0} → Bool → List Name → State → Option (Answer State) → Option (Answer State)
 unless true known s else = Some (Ok (known, s))

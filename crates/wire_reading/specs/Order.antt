@@ -12,9 +12,9 @@ Name = List ℕ
 abbrev pub is_known : List Name → Name → Bool
 is_known known name = list_any (same_text name) known
 
--- the names of the files that were read, and the state behind them, or why a file is refused
+-- the names of the files that were read, or why a file is refused, and the state behind them
 abbrev pub Answer : Type 0 → Type 0
-Answer State = Result (List Name × State) Fault
+Answer State = Result (List Name × State) (Fault × State)
 
 abbrev pub Reader : Type 0 → Type 1
 Reader State = Need → List Name → State → Answer State → Type 0
@@ -36,7 +36,7 @@ Opening State = State → Need → Result (List Need) Fault → State → Type 0
 -- what the file needs is read behind it
 abbrev pub Follows : {State : Type 0} → Reader State → List Name → State → Result (List Need) Fault → Answer State → Type 0
 Follows inner known s (Ok needs) answer = Each inner needs known s answer
-Follows inner known s (Err e) answer = answer ≡ Err e
+Follows inner known s (Err e) answer = answer ≡ Err (e, s)
 
 abbrev pub Opened : {State : Type 0} → Opening State → Reader State → Reader State
 Opened {State} Opens inner need known s answer =
@@ -66,8 +66,9 @@ Answers Opens app main s answer = ReadAll Opens (component app ∷ component mai
 abbrev pub Reads : {State : Type 0} → Opening State → (app main : Name) → State → State → Type 0
 Reads Opens app main s after = (known : List Name) × Answers Opens app main s (Ok (known, after))
 
-abbrev pub Refuses : {State : Type 0} → Opening State → (app main : Name) → State → Fault → Type 0
-Refuses Opens app main s e = Answers Opens app main s (Err e)
+-- a file is refused, and this state is left
+abbrev pub Refuses : {State : Type 0} → Opening State → (app main : Name) → State → Fault → State → Type 0
+Refuses Opens app main s e after = Answers Opens app main s (Err (e, after))
 
 -- want of memory is no refusal
 abbrev pub IsRefusal : Fault → Type 0

@@ -1,7 +1,7 @@
 //! A long chain of files, whose reading must not use the native stack.
 
 use crate::{Need, Opener, read_files};
-use nm_base::{Fault, Name};
+use nm_base::{Fault, Files, List, MemFiles, Name};
 use std::alloc::Global;
 
 // So many files may be opened yet; each needs the next one, but for the last two.
@@ -17,13 +17,18 @@ impl Opener for Chain {
 
     ghost state = { λ c. c.left };
 
-    ghost Opens = { λ s need found after. Unit {0} };
+    ghost Opens = { λ told s need found after. Unit {0} };
 
     ghost left = { λ s. s };
 
-    fn open(&mut self, alloc: Global, _need: &Need) -> Result<Vec<Need>, Fault> {
+    fn open<F: Files>(
+        &mut self,
+        alloc: Global,
+        _files: &mut F,
+        _need: &Need,
+    ) -> Result<Vec<Need>, Fault> {
         if self.left == 0 {
-            return Err(Fault::ReadFault);
+            return Err(Fault::NoMemory);
         }
         self.left -= 1;
         let mut needs = Vec::new(alloc);
@@ -41,11 +46,13 @@ impl Opener for Chain {
 #[test]
 fn a_chain_of_files_is_read(rt: HostRuntime) {
     let mut chain = Chain { left: 80_000 };
+    let none: Vec<(Name, List<u8>)> = Vec::new(rt.alloc());
+    let mut files = MemFiles::new(none, Vec::new(rt.alloc()));
     let app = Name::new(rt.alloc(), b"A".as_slice());
     let main = Name::new(rt.alloc(), b"M".as_slice());
     match (app, main) {
         (Ok(app), Ok(main)) => {
-            assert!(rt; read_files(rt.alloc(), &mut chain, app, main).is_ok());
+            assert!(rt; read_files(rt.alloc(), &mut files, &mut chain, app, main).is_ok());
             assert_eq!(rt; chain.left, 0);
         }
         _ => assert!(rt; false),

@@ -4,4 +4,4 @@ use Rattle.wire_reading.proofs.OneReading.{all_one}
 use Rattle.wire_reading.proofs.laws.one_reading.Goals as goal
 
 pub returns : goal.returns
-returns g c = λ one app main s x y a b. all_one g.O.Opener.Opens one (component app ∷ component main ∷ []) [] s x y a b
+returns g c = λ told one app main s x y a b. all_one (g.O.Opener.Opens told) one (component app ∷ component main ∷ []) [] s x y a b
