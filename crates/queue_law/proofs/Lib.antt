@@ -1,0 +1,5 @@
+pub mod Lists
+pub mod Stepping
+pub mod Queueing
+pub mod Popping
+pub mod Kernels
