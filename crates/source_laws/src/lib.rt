@@ -3,4 +3,4 @@
 
 mod laws;
 
-pub use laws::bodies_are_orderly;
+pub use laws::{bodies_are_orderly, depth_cuts_nothing};
