@@ -7,4 +7,4 @@ mod types;
 mod walk;
 
 pub use elab_forms::Told;
-pub use exprs::{constant, found, type_of, value};
+pub use exprs::{base, constant, found, lengths, type_of, value};

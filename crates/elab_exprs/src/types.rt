@@ -45,7 +45,7 @@ pub(crate) fn type_of(
 // The lengths of arrays, from left to right.
 #[cycle(walk)]
 #[tactic(auto, using(crate::proofs::Loops::length_lists), unfolding(crate::specs::Walk::AreLengths, crate::specs::Walk::IsLength, crate::specs::Walk::length_at, crate::specs::Walk::lengths_at))]
-fn lengths(
+pub(crate) fn lengths(
     alloc: Global,
     told: &Told,
     work: &mut Work,
@@ -74,7 +74,13 @@ fn length_of(alloc: Global, told: &Told, work: &mut Work, e: &Expr) -> Result<u3
 // A type before its stars.
 #[cycle(walk)]
 #[tactic(auto, unfolding(crate::specs::Walk::IsBased, crate::specs::Walk::base_at))]
-fn base(alloc: Global, told: &Told, work: &mut Work, b: &Base, at: Pos) -> Result<Based, Fault>
+pub(crate) fn base(
+    alloc: Global,
+    told: &Told,
+    work: &mut Work,
+    b: &Base,
+    at: Pos,
+) -> Result<Based, Fault>
     ensures { IsBased result work.new (base_at told.now at (base_of b.now) work.old) }
 {
     match b {
