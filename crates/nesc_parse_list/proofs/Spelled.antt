@@ -1,5 +1,5 @@
 -- Reading declarations outside of blocks, and which tokens spell them.
-use Rattle.std.proofs.Common.{◌≡◌, ℕ, zero, suc, ◌+◌, ◌-◌, ◌<◌, ◌≤◌, Bool, true, false, List, [], ◌∷◌, ◌++◌, length, take, drop, Ok, Err, refl, sym, ap, subst, ◌∙◌, arith, append-nil}
+use Rattle.std.proofs.Common.{◌≡◌, ℕ, suc, ◌+◌, ◌-◌, ◌<◌, ◌≤◌, Bool, true, false, List, [], ◌∷◌, ◌++◌, length, take, drop, Ok, Err, refl, sym, ap, subst, ◌∙◌, arith, append-nil}
 use Rattle.nm_base.specs.declared.token.Token.{Token}
 use Rattle.nm_base.specs.declared.fault.Fault.TheVariants as f
 use Rattle.nm_base.specs.declared.fault.Fault as nm
@@ -18,14 +18,14 @@ use Rattle.nesc_grammar.specs.Declarations.{decls_before, ended_decls, end_token
 use Rattle.nesc_grammar.specs.Production.{production}
 use Rattle.nesc_grammar.specs.Laws.{answer}
 use Rattle.nesc_tree.proofs.Checked.{opened}
-use Rattle.nesc_tree.proofs.Moved.{Cut, Free, Moved, moved}
+use Rattle.nesc_tree.proofs.Moved.{Cut, Free, moved}
 use Rattle.nesc_tree.proofs.Open.{Open, bars}
 use Rattle.nesc_tree.proofs.Sound.{Sound, sound}
 use Rattle.nesc_tree.proofs.Meets.{Same, Near, Meets, meets}
 use Rattle.nesc_grammar.proofs.Instance.{reads_on, reads_spelled, reads_beside, may_stand}
 use Rattle.nesc_parse_types.specs.declared.stop.Stop.{Stop}
 use Rattle.nesc_parse_types.specs.declared.stop.Stop.TheVariants as rust
-use Rattle.nesc_parse_types.specs.Gives.{Fails, Found, Gives, form_in, place}
+use Rattle.nesc_parse_types.specs.Gives.{Fails, form_in, place}
 use Rattle.nesc_declarations.proofs.Forms.{decls_fine, by_at}
 use Rattle.nesc_left_out.specs.Refusals as refusals
 use Rattle.nesc_left_out.proofs.FromPlace.{cut_length}

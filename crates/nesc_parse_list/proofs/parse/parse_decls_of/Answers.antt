@@ -1,4 +1,4 @@
-use Rattle.std.proofs.Common.{◌≡◌, ◌-◌, Ok, length, take, drop, subst}
+use Rattle.std.proofs.Common.{◌-◌, Ok, length, take, drop, subst}
 use Rattle.nesc_grammar.specs.Declarations.{decls_before}
 use Rattle.nesc_parse_types.specs.Gives.{form_in, place}
 use Rattle.nesc_left_out.proofs.Faults.{seen}
