@@ -1,5 +1,5 @@
 -- Declarations cut where the code is cut.
-use Rattle.std.proofs.Common.{◌≡◌, ℕ, Bool, List, [], ◌∷◌, map, Option, Ok, Err, ap, sym, ◌∙◌, refl}
+use Rattle.std.proofs.Common.{◌≡◌, ℕ, Bool, List, [], Option, Ok, Err, ◌∙◌, refl}
 use Rattle.nm_base.specs.declared.pos.Pos.{Pos}
 use Rattle.nesc_core.specs.Plain as core
 use Rattle.nesc_core.specs.Plain.{Ty}
@@ -7,13 +7,13 @@ use Rattle.nesc_tree.specs.Plain as s
 use Rattle.nesc_types.specs.Rule.{Rule}
 use Rattle.nesc_types.specs.Values.{Constant}
 use Rattle.elab_meaning.specs.Convert.{size}
-use Rattle.elab_meaning.specs.Elab.{State, Elab, after, by, give, fresh, add_name}
+use Rattle.elab_meaning.specs.Elab.{State, after, by, give, fresh, add_name}
 use Rattle.elab_meaning.specs.Operators.{Based, new_name}
 use Rattle.elab_meaning.specs.Scope.{Env, local, type}
 use Rattle.elab_meaning.specs.Wired.{starred, dimensioned, is_const_at, base_of, lengths}
 use Rattle.elab_exprs.proofs.Steps.{after-after, after-same}
 use Rattle.body_meaning.specs.Tree.{Variable}
-use Rattle.body_meaning.specs.Stmts.{initials_of, variable, type_named}
+use Rattle.body_meaning.specs.Stmts.{variable, type_named}
 use Rattle.elab_locals.specs.Parts.{shaped, new_local, new_type, set, one_variable, type_name}
 
 module _ (env : Env) (given : List (Option Constant)) where

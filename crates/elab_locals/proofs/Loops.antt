@@ -1,5 +1,5 @@
 -- Initialisers in braces and variables, one after the other.
-use Rattle.std.proofs.Common.{◌≡◌, ℕ, suc, ◌+◌, ◌<◌, ◌≤◌, Bool, List, [], ◌∷◌, ◌++◌, map, drop, length, get_or, Option, Ok, ap, sym, ◌∙◌, arith}
+use Rattle.std.proofs.Common.{◌≡◌, ℕ, suc, ◌+◌, ◌<◌, ◌≤◌, Bool, List, [], ◌++◌, map, drop, length, get_or, Option, Ok, ap, ◌∙◌, arith}
 use Rattle.nm_base.specs.declared.fault.Fault.{Fault}
 use Rattle.nm_base.specs.declared.pos.Pos.{Pos}
 use Rattle.nm_base.specs.declared.refusal.Refusal.TheVariants.{BadType}
@@ -10,7 +10,7 @@ use Rattle.nesc_types.specs.Rule.{Rule, or_refuse}
 use Rattle.nesc_types.specs.Values.{Constant}
 use Rattle.elab_meaning.specs.Answers.{FaultIs}
 use Rattle.elab_meaning.specs.Convert.{Target}
-use Rattle.elab_meaning.specs.Elab.{State, after, by, give}
+use Rattle.elab_meaning.specs.Elab.{State, after, by}
 use Rattle.elab_meaning.specs.Operators.{Based}
 use Rattle.elab_meaning.specs.Scope.{Env}
 use Rattle.elab_exprs.proofs.Steps.{after-after, drop-past}

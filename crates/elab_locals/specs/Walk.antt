@@ -1,23 +1,21 @@
 -- What each function of the walk over initialisers gives, under names that do not unfold by themselves (own).
-use Rattle.std.specs.Prelude.{ℕ, List, map, Option, Result}
+use Rattle.std.specs.Prelude.{ℕ, List, map, Result}
 use Rattle.std.specs.declared.alloc.Global.{Global}
 use Rattle.std.specs.declared.vec.Vec.{Vec}
 use Rattle.nm_base.specs.declared.fault.Fault.{Fault}
 use Rattle.nm_base.specs.declared.pos.Pos.{Pos}
 use Rattle.nesc_core.specs.declared.tree.CoreExpr as core_expr
-use Rattle.nesc_core.specs.declared.tree.CoreStmt as core_stmt
-use Rattle.nesc_core.specs.Plain.{Expr, Stmt}
-use Rattle.nesc_core.specs.View.{expr_of, stmt_of}
+use Rattle.nesc_core.specs.Plain.{Expr}
+use Rattle.nesc_core.specs.View.{expr_of}
 use Rattle.nesc_types.specs.Rule.{Rule}
 use Rattle.elab_meaning.specs.declared.work.Work.{Work}
 use Rattle.elab_meaning.specs.Answers.{Gives}
 use Rattle.elab_meaning.specs.Convert.{Target}
 use Rattle.elab_meaning.specs.Elab.{State}
-use Rattle.elab_meaning.specs.Operators.{Based}
 use Rattle.elab_meaning.specs.View.{env_of, state_of}
 use Rattle.elab_forms.specs.declared.forms.Told.{Told}
 use Rattle.body_meaning.specs.Initial as initial
-use Rattle.body_meaning.specs.Tree.{Init, Inits, Variable}
+use Rattle.body_meaning.specs.Tree.{Init, Inits}
 use Rattle.elab_locals.specs.Parts as parts
 
 unfoldable pub AreSteps : Result (Vec core_expr.CoreExpr Global) Fault → Work → Rule (List Expr × State) → Type 0

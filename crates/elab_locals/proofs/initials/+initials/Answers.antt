@@ -1,7 +1,7 @@
 use Rattle.std.proofs.Common.{◌≡◌, ◌+◌, ◌<◌, length, map, arith, rules}
 use Rattle.nesc_core.specs.View.{expr_of as core_expr_of}
 use Rattle.elab_exprs.proofs.Faults.{stops}
-use Rattle.elab_meaning.specs.View.{env_of, state_of}
+use Rattle.elab_meaning.specs.View.{state_of}
 use Rattle.elab_locals.specs.Walk.{AreSteps, initials_at, one_initial_at}
 use Rattle.elab_locals.proofs.Loops.{initial_passed, initial_failed}
 use Rattle.elab_locals.proofs.Sizes.{sizes_next}

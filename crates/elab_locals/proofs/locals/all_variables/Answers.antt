@@ -1,4 +1,4 @@
-use Rattle.std.proofs.Common.{◌≡◌, ◌+◌, ◌<◌, length, map, arith}
+use Rattle.std.proofs.Common.{◌<◌, length, map, arith}
 use Rattle.nesc_core.specs.View.{stmt_of}
 use Rattle.elab_exprs.proofs.Faults.{stops}
 use Rattle.elab_meaning.specs.View.{based_of, env_of, state_of}
