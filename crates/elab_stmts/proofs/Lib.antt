@@ -1,0 +1,4 @@
+pub mod Sizes
+pub mod Cuts
+pub mod Loops
+pub mod Forms
