@@ -1,4 +1,4 @@
-"""Tries the edits of the crates whose proof takes over four minutes of a processor, which the gate would prove a second time for them.
+"""Tries the edits that stand outside the gate: those of crates whose proof takes over four minutes of a processor.
 
 Usage: python3 bench/edits.py [CRATE ...]     (at the top of the repository; without names all crates of bench/edits)
 
@@ -15,11 +15,16 @@ TOP = os.path.dirname(os.path.dirname(os.path.abspath(__file__)))
 def is_refused(crate):
     """Whether every edit of a crate is refused."""
     kept, placed = f"{TOP}/bench/edits/{crate}", f"{TOP}/crates/{crate}/must-fail"
-    shutil.copytree(kept, placed)
+    own = os.path.isdir(placed)
+    edits = sorted(os.listdir(kept))
+    shutil.copytree(kept, placed, dirs_exist_ok=True)
     try:
-        ran = subprocess.run(["rt", "must-fail"], cwd=f"{TOP}/crates/{crate}", capture_output=True, text=True)
+        ran = subprocess.run(["rt", "must-fail", crate], cwd=TOP, capture_output=True, text=True)
     finally:
-        shutil.rmtree(placed)
+        for edit in edits:
+            os.remove(f"{placed}/{edit}")
+        if not own:
+            os.rmdir(placed)
     print(ran.stdout + ran.stderr, end="")
     return ran.returncode == 0
 
