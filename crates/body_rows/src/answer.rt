@@ -4,6 +4,7 @@ ghost use Rattle.std.specs.Prelude.{◌≡◌, [], codes, true, IfOk};
 ghost use Rattle.nesc_tree.specs.Sorts.{declared};
 
 use crate::texts::stmt_text;
+use nesc_left_out::mark;
 use nesc_parse_body::parse_body;
 use nesc_tokens::lex;
 use nesc_tree::TypeNames;
@@ -106,7 +107,9 @@ fn tokens_of(alloc: Global, text: &[u8]) -> Result<Vec<Token>, Fault> {
     if text.len() >= 1_000_000_000 {
         return Err(Fault::NoMemory);
     }
-    lex(alloc, FILE, text)
+    let mut tokens = lex(alloc, FILE, text)?;
+    mark(&mut tokens);
+    Ok(tokens)
 }
 
 /// What stands in what in the statement of the line, or why it is none.

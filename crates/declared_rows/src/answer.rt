@@ -5,6 +5,7 @@ ghost use Rattle.nesc_tree.specs.Sorts.{declared};
 
 use crate::declarations::put_decl;
 use crate::types::put;
+use nesc_left_out::mark;
 use nesc_parse_list::parse_decls_of;
 use nesc_tokens::lex;
 use nesc_tree::{Decl, Site, TypeNames};
@@ -130,7 +131,9 @@ fn tokens_of(alloc: Global, text: &[u8]) -> Result<Vec<Token>, Fault> {
     if text.len() >= 1_000_000_000 {
         return Err(Fault::NoMemory);
     }
-    lex(alloc, FILE, text)
+    let mut tokens = lex(alloc, FILE, text)?;
+    mark(&mut tokens);
+    Ok(tokens)
 }
 
 // Which declarations stand on the line, by its first two bytes, and the line behind these.

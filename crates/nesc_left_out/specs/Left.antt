@@ -44,6 +44,7 @@ words =
 
 abbrev pub signs : List (List ℕ × Row)
 signs =
+    (codes "hwevent", Some (l.Hwevent, p.Anywhere)) ∷
     (codes "...", Some (l.Varargs, p.Anywhere)) ∷
     (codes ":", Some (l.Bitfield, p.FieldEnd)) ∷
     (codes "(", Some (l.Declarator, p.Declarator)) ∷

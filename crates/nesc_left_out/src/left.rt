@@ -54,7 +54,8 @@ const WORDS: [(&[u8], Row); 17] = [
     (b"event", Some((Left::Bare, Place::Element))),
 ];
 
-const SIGNS: [(&[u8], Row); 7] = [
+const SIGNS: [(&[u8], Row); 8] = [
+    (b"hwevent", Some((Left::Hwevent, Place::Anywhere))),
     (b"...", Some((Left::Varargs, Place::Anywhere))),
     (b":", Some((Left::Bitfield, Place::FieldEnd))),
     (b"(", Some((Left::Declarator, Place::Declarator))),

@@ -1,85 +1,29 @@
--- Reading from a place of a list.
-use Rattle.std.proofs.Common.{◌≡◌, ℕ, suc, ◌+◌, ◌-◌, ◌<◌, ◌≤◌, List, [], ◌∷◌, ◌++◌, length, take, drop, Ok, Err, refl, sym, ap, subst, ◌∙◌, arith, length-drop}
-use Rattle.std.proofs.lemmas.List.{length-append, take_rest}
-use Rattle.std.proofs.Math.ListN.{get_or}
-use Rattle.nm_base.specs.declared.pos.Pos.{Pos}
+-- What reading a statement from a place of a list answers.
+use Rattle.std.proofs.Common.{◌≡◌, ℕ, ◌+◌, ◌-◌, ◌≤◌, List, length, drop, Ok, refl, arith}
 use Rattle.nm_base.specs.declared.token.Token.{Token}
 use Rattle.nesc_tree.specs.declared.declarations.Stmt.{Stmt}
 use Rattle.nesc_tree.specs.Sorts.{Names}
-use Rattle.nesc_tree.specs.Phrase.{Phrase, Of}
-use Rattle.nesc_tree.specs.Reading.{Fault, Syntax, Deep, Answer}
-use Rattle.nesc_grammar.specs.Reach.{SpelledIn, BeginsIn, IsReach, IsTooDeep}
-use Rattle.nesc_grammar.specs.Laws.{answer, left_by, Reached}
-use Rattle.nesc_grammar.proofs.Reach.{reach}
+use Rattle.nesc_tree.specs.Reading.{Answer}
+use Rattle.nesc_grammar.specs.Laws.{answer}
 use Rattle.nesc_parse_types.specs.Gives.{place}
-use Rattle.nesc_parse_body.specs.Parsed as parsed
-use Rattle.nesc_parse_body.specs.Parsed.{most, end_of, IsParsed, IsRefused, IsDeep}
-use Rattle.nesc_parse_body.specs.Probes.{body, read_of}
+use Rattle.nesc_left_out.proofs.FromPlace as from
+use Rattle.nesc_parse_body.specs.Parsed.{IsParsed, body, most, spare}
 
--- the last token
-last_place : (before : Pos) (all : List Token) (x : Token) → 0 < length all → x ≡ get_or all (length all - 1) x → x.pos ≡ end_of before all
-last_place before [] x some q = absurd (omega arith)
-last_place before (t ∷ []) x some q = ap (λ (y : Token). y.pos) q
-last_place before (t ∷ u ∷ ts) x some q =
-    let z : suc (suc (length ts)) - 1 ≡ suc (suc (length ts) - 1) = omega arith in
-    let v : x ≡ get_or (u ∷ ts) (suc (length ts) - 1) x = rw z at q in
-    last_place t.pos (u ∷ ts) x (omega arith) v
+module _ (file : ℕ) (all : List Token) (at : ℕ) (names : Names) (l : at ≤ length all) (tree : Stmt) (rest : List Token) (q : answer most body names (drop at all) ≡ Ok (tree, place names rest)) where
+  abbrev read : Answer Stmt
+  read = Ok (tree, place names rest)
 
-pub ends_at : (file : ℕ) (all rest : List Token) (x : Token) → length rest < 1 → 1 ≤ length all → x ≡ get_or all (length all - 1) x → x.pos ≡ parsed.place file all rest
-ends_at file all [] x none some q = last_place (record { file = file; line = 1; col = 1 }) all x some q
-ends_at file all (t ∷ rest) x none some q = absurd (omega arith)
+  abbrev before : List Token
+  before = (from.reached spare body refl file all at names).0
 
-take_front : (xs ys : List Token) → take (length xs) (xs ++ ys) ≡ xs
-take_front [] ys = refl
-take_front (x ∷ xs) ys = ap (λ (us : List Token). x ∷ us) (take_front xs ys)
+  lengths : at + length before + length rest ≡ length all
+  lengths = from.cut_length spare body refl file all at names before rest (from.cut_by spare body refl file all at names read q) l
 
-module _ (file : ℕ) (all : List Token) (at : ℕ) (names : Names) where
-  abbrev ts : List Token
-  ts = drop at all
+  pub inside : length rest ≤ length all
+  inside = let n = lengths in omega arith
 
-  pub reached : (before : List Token) × (ts ≡ before ++ left_by (read_of names ts)) × Reached most body names before (read_of names ts)
-  reached = reach 199 body refl names ts
-
-  pub cut_by : (x : Answer Stmt) → read_of names ts ≡ x → ts ≡ reached.0 ++ left_by x
-  cut_by x q = subst (λ (y : Answer Stmt). ts ≡ reached.0 ++ left_by y) q reached.1
-
-  pub reached_by : (x : Answer Stmt) → read_of names ts ≡ x → Reached most body names reached.0 x
-  reached_by x q = subst (Reached most body names reached.0) q reached.2
-
-  pub deep : (rest : List Token) → read_of names ts ≡ Err (Deep rest) → IsDeep body file all at names
-  deep rest q = record { before = reached.0; rest = rest; cut = cut_by (Err (Deep rest)) q; deep = reached_by (Err (Deep rest)) q }
-
-  abbrev pub refused : (rest : List Token) → read_of names ts ≡ Err (Syntax rest) → (pos : Pos) → pos ≡ parsed.place file all rest → IsRefused body file all at names pos
-  refused rest q pos e = record {
-    before = reached.0;
-    rest = rest;
-    cut = cut_by (Err (Syntax rest)) q;
-    reach = (reached_by (Err (Syntax rest)) q).0;
-    begins = (reached_by (Err (Syntax rest)) q).1;
-    unspelled = (reached_by (Err (Syntax rest)) q).2;
-    stands = e;
-  }
-
-  pub cut_length : (before rest : List Token) → ts ≡ before ++ rest → at ≤ length all → at + length before + length rest ≡ length all
-  cut_length before rest e l =
-      let n : length ts ≡ length (before ++ rest) = ap length e in
-      let m = length-append before rest in
-      omega (arith, length-drop at all)
-
-  pub inside : (before rest : List Token) → ts ≡ before ++ rest → at ≤ length all → length rest ≤ length all
-  inside before rest e l = let n = cut_length before rest e l in omega arith
-
-  -- the tokens from the place to the rest
-  pub between : (before rest : List Token) → ts ≡ before ++ rest → at ≤ length all → take (length all - length rest - at) ts ≡ before
-  between before rest e l =
-      let n = cut_length before rest e l in
-      let z : length all - length rest - at ≡ length before = omega arith in
-      ap (λ (m : ℕ). take m ts) z ∙ (ap (λ (us : List Token). take (length before) us) e ∙ take_front before rest)
-
-  module _ {T : Type 0} (tree_of : Stmt → T) where
-    pub parses : (value : Stmt) (rest : List Token) → read_of names ts ≡ Ok (value, place names rest) → at ≤ length all → IsParsed body file all at names tree_of (tree_of value) (length all - length rest)
-    parses value rest q l =
-        let h = reached_by (Ok (value, place names rest)) q in
-        let c = cut_by (Ok (value, place names rest)) q in
-        let n = cut_length reached.0 rest c l in
-        record { before = reached.0; rest = rest; cut = c; reach = h.0; value = value; spelled = h.1; same = refl; ends = omega arith }
+  pub parses : IsParsed file all at names tree (length all - length rest)
+  parses =
+      let h = from.reached_by spare body refl file all at names read q in
+      let n = lengths in
+      record { before = before; rest = rest; cut = from.cut_by spare body refl file all at names read q; reach = h.0; spelled = h.1; ends = omega arith }

@@ -1,4 +1,1 @@
-pub mod Told
 pub mod FromPlace
-pub mod Refusals
-pub mod Stands

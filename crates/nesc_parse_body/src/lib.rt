@@ -1,8 +1,6 @@
 //! The parser of statements.
 #![tactic(auto)]
 
-mod left;
 mod parse;
-mod probes;
 
 pub use parse::parse_body;
