@@ -4,12 +4,15 @@ ghost use Rattle.std.specs.Prelude.{◌≡◌, ◌<◌, [], IfOk, length, map, s
 ghost use Rattle.nesc_core.specs.Size.{AreSized};
 ghost use Rattle.nesc_core.specs.View.{program_of, structs_of};
 ghost use Rattle.call_graph.specs.Graph.{IsCounted, IsGraph};
+ghost use Rattle.call_graph.specs.Paths as paths;
 ghost use Rattle.call_graph.specs.Paths.{base_roots, handler_roots};
 ghost use Rattle.call_graph.specs.View.{use_of};
+ghost use Rattle.least_paths.specs.Searched.{IsSearch};
 ghost use Rattle.race_report.specs.Known.{IsKnown, body_uses};
 
 use crate::sources::Sources;
 use call_graph::{CallGraph, Use, callees, uses_in};
+use least_paths::{Search, search};
 use nesc_core::Program;
 use nm_base::{List, NoMemory};
 use std::alloc::Global;
@@ -29,11 +32,27 @@ pub(crate) fn sources<'a>(
         p,
         g,
         uses: all_uses(alloc, p)?,
-        all: callees(alloc, p, false)?,
-        bare: callees(alloc, p, true)?,
-        handlers: handler_bodies(alloc, p)?,
-        base: base_bodies(alloc, p)?,
+        handlers: handler_search(alloc, p)?,
+        base: base_search(alloc, p)?,
     })
+}
+
+fn handler_search(alloc: Global, p: &Program) -> Result<Search, NoMemory>
+    requires { IsCounted (program_of p.now) }
+    ensures { IfOk result (λ s. IsSearch (handler_roots (program_of p.now)) (paths.callees (program_of p.now)) (length (program_of p.now).bodies) s) }
+{
+    let table = callees(alloc, p, false)?;
+    let roots = handler_bodies(alloc, p)?;
+    search(alloc, &table, &roots)
+}
+
+fn base_search(alloc: Global, p: &Program) -> Result<Search, NoMemory>
+    requires { IsCounted (program_of p.now) }
+    ensures { IfOk result (λ s. IsSearch (base_roots (program_of p.now)) (paths.bare_callees (program_of p.now)) (length (program_of p.now).bodies) s) }
+{
+    let table = callees(alloc, p, true)?;
+    let roots = base_bodies(alloc, p)?;
+    search(alloc, &table, &roots)
 }
 
 fn all_uses(alloc: Global, p: &Program) -> Result<Vec<List<Use<'_>>>, NoMemory>

@@ -20,9 +20,9 @@ use std::alloc::Global;
 /// The race report of a program, given the graph of its calls: the rows by object, body and node. A program with more rows
 /// than `MAX_ROWS` is refused by the limit `Rows`.
 ///
-/// Each body is walked once. For each object without `norace` the accesses of the bodies that handlers reach are looked at until
-/// one touches it, and all accesses where one does. A least chain costs a look at all calls for each call on it, and is sought
-/// once for such an object, and once for it and each body with a row.
+/// Each body is walked once. The least chains to all bodies are found by one search from the boot body and the tasks and one from
+/// the handlers, and those of a row are read off in time linear in their length. For each object without `norace` the accesses of
+/// the bodies that handlers reach are looked at until one touches it, and all accesses where one does.
 pub fn report(alloc: Global, p: &Program, g: &CallGraph) -> Result<Vec<Row>, Fault>
     requires counted { IsCounted (program_of p.now) }
     requires graph { IsGraph (program_of p.now) g.now }

@@ -12,7 +12,7 @@ ghost use Rattle.race_report.specs.Sites.{row_at_site, sites_of};
 
 use crate::bodies::uses_at;
 use crate::parts::is_marked;
-use crate::paths::{async_path, bare_path, is_shared};
+use crate::paths::{async_path, bare_path};
 use crate::sources::Sources;
 use crate::touch::touches;
 use call_graph::Use;
@@ -160,7 +160,7 @@ fn push_bodies(
     requires { IsKnown s.now }
     ensures { IfOk result (λ _. AreAlike rows.new.items (rows.old.items ++ computed.rows_for (program_of s.now.p.now) x false (Some async_path.now))) }
 {
-    for f in 0..s.all.as_slice().len() {
+    for f in 0..s.uses.as_slice().len() {
         push_body(alloc, s, rows, x, f as u32, async_path)?;
     }
     Ok(())
@@ -186,9 +186,6 @@ pub(crate) fn push_object(
     ensures { IfOk result (λ _. AreAlike rows.new.items (rows.old.items ++ computed.rows_for (program_of s.now.p.now) x (computed.is_marked (slice_get (map object_of s.now.p.now.objects) x)) (computed.async_path (program_of s.now.p.now) x))) }
 {
     if is_norace(s.p, x) {
-        return Ok(());
-    }
-    if !is_shared(alloc, s, x)? {
         return Ok(());
     }
     match async_path(alloc, s, x)? {

@@ -1,17 +1,16 @@
-use Rattle.std.proofs.Common.{◌≡◌, ◌==◌, ◌∙◌, ℕ, IfOk, Vec, Global, option_map, length, ap, sym, subst}
-use Rattle.nesc_core.specs.View.{program_of}
-use Rattle.call_graph.specs.Graph.{row_at}
-use Rattle.call_graph.specs.Paths.{bare_callees, base_roots}
-use Rattle.call_graph.specs.Search.{is_end_in}
-use Rattle.race_report.proofs.PathLemmas.{same_path}
+use Rattle.std.proofs.Common.{Vec, Global, ℕ, arith, option_map}
+use Rattle.std.proofs.Math.ListN as list
+use Rattle.nesc_core.specs.View.{body_of, program_of}
+use Rattle.nesc_core.proofs.PlaceLemmas.{ok_more}
+use Rattle.race_report.proofs.PathLemmas.{bare_is}
 use Rattle.race_report.proofs.paths.bare_path.Goals as goal
+
+pub path_to-requires : goal.path_to-requires
+path_to-requires c = (_, _, _, c.requires.known.base)
 
 pub returns : goal.returns
 returns c =
-    let p = program_of c.args.s.now.p.now in
-    subst (λ q. IfOk c.least_path.result (λ found. option_map (λ (v : Vec ℕ Global). v.items) found ≡ q))
-    (same_path (row_at c.deref.result.now) (bare_callees p) (is_end_in c.deref-2.result.now) (λ g. g == c.args.f) c.deref-3.result.now (base_roots p) c.len-count.result (length p.bodies)
-    (ap row_at c.deref.ensures.value ∙ c.requires.known.bare) (ap is_end_in c.deref-2.ensures.value ∙ c.in_ok-ends.ensures.ends)
-    (c.deref-3.ensures.value ∙ c.requires.known.base)
-    (c.len-count.ensures ∙ sym c.deref.ensures.len ∙ ap length c.deref.ensures.value ∙ c.requires.known.bare_size))
-    c.least_path.ensures
+    ok_more _ _
+    (λ found is. bare_is (program_of c.args.s.now.p.now) c.requires.known.graph.no_cycle c.args.s.now.base c.args.f (omega (arith, c.requires.inside, list.length-map c.args.s.now.p.now.bodies body_of)) c.requires.known.base
+    (option_map (λ (v : Vec ℕ Global). v.items) found) is)
+    c.path_to.result c.path_to.ensures

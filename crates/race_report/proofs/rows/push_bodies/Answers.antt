@@ -5,6 +5,7 @@ use Rattle.call_graph.specs.Paths.{below}
 use Rattle.race_checker.specs.Computed.{bare_path, rows_in}
 use Rattle.race_report.specs.Limit.{AreAlike}
 use Rattle.race_report.proofs.Alike.{alike_next}
+use Rattle.race_report.proofs.PathLemmas.{uses_size}
 use Rattle.race_report.proofs.rows.push_bodies.Goals as goal
 
 pub loop-f-preserved : goal.loop-f-preserved
@@ -16,6 +17,6 @@ loop-f-preserved c =
 pub returns : goal.returns
 returns c =
     let p = program_of c.args.s.now.p.now in
-    let end : c.loop-f.f ≡ length p.bodies = omega (arith, c.loop-f-test.false, c.loop-f.auto.f-end, ap length c.as_slice-f-end.ensures.value, c.requires.all_size) in
+    let end : c.loop-f.f ≡ length p.bodies = omega (arith, c.loop-f-test.false, c.loop-f.auto.f-end, ap length c.as_slice-f-end.ensures.value, uses_size p c.args.s.now.uses.items c.requires.uses) in
     subst (λ n. AreAlike c.loop-f.rows.items (c.args.rows.now.items ++ flat_map (λ f. rows_in p c.args.x f c.args.async_path.now (bare_path p f)) (below n)))
     end c.loop-f.invariant

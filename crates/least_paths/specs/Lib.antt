@@ -1,0 +1,4 @@
+pub mod Backward
+pub mod Visits
+pub mod Ascending
+pub mod Searched
