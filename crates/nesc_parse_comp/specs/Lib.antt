@@ -1,0 +1,4 @@
+pub mod Behind
+pub mod Named
+pub mod Reads
+pub mod Units

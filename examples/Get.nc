@@ -1,0 +1,1 @@
+interface Get { command uint8_t get(); }

@@ -1,0 +1,4 @@
+module OneG { provides interface Get; }
+implementation {
+  command uint8_t Get.get() { return 4; }
+}

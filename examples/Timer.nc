@@ -1,0 +1,1 @@
+interface Timer<tag> { command void startPeriodic(uint32_t dt); event void fired(); }
