@@ -1,0 +1,13 @@
+//! The files of an application: each is expanded and parsed where it is needed first.
+#![tactic(auto)]
+
+mod application;
+mod loader;
+mod needs;
+mod place;
+mod texts;
+mod unit_parser;
+
+pub use application::read_application;
+pub use loader::Loader;
+pub use unit_parser::UnitParser;
