@@ -1,0 +1,4 @@
+pub mod Components
+pub mod Rows
+pub mod Scopes
+pub mod Seen

@@ -1,0 +1,384 @@
+-- What wires need to know of types and constants (nesC 1.3 Reference, sections 6 to 9; own: the order, and what is refused where).
+-- First come the types of headers, then the specifications of components that are not generic, each a fault of its own. Then the
+-- lines of each instance are looked at, up to the first that is refused: pairs stop there or before.
+use Rattle.std.specs.Prelude.{ℕ, zero, suc, ◌+◌, ◌==◌, ◌&&◌, ℤ, pos, int_le, Bool, true, false, cond, List, [], ◌∷◌, ◌++◌, length, take, Option, Some, None, Result, Ok, Err, slice_get, option_map, option_and_then, unwrap_or}
+use Rattle.nm_base.specs.declared.pos.Pos.{Pos}
+use Rattle.nm_base.specs.declared.fault.Fault.{Fault}
+use Rattle.nm_base.specs.declared.fault.Fault.TheVariants as fault
+use Rattle.nm_base.specs.declared.refusal.Refusal.TheVariants.{BadType, NotConstant, UnknownName}
+use Rattle.nm_base.specs.declared.int_type.IntType.{IntType}
+use Rattle.nm_base.specs.declared.int_type.IntType.TheVariants.{U8, U16}
+use Rattle.nm_base.specs.IntType.{wrapped}
+use Rattle.nesc_core.specs.Plain.{Ty}
+use Rattle.nesc_core.specs.Parts.{same_type}
+use Rattle.nesc_tree.specs.Plain as s
+use Rattle.nesc_tree.specs.Plain.{TypeSpec, MaybeExpr}
+use Rattle.nesc_types.specs.Constant.{pos_of}
+use Rattle.nesc_types.specs.Rule.{Rule, refuse}
+use Rattle.nesc_types.specs.Values.{Constant}
+use Rattle.elab_meaning.specs.Scope.{Env, Meaning, task, constant, type, Unique, UniqueCount}
+use Rattle.elab_meaning.specs.Elab.{State, Elab, by, ◌>>=◌, ◌>>◌, give, add_name}
+use Rattle.elab_meaning.specs.Convert.{int_of, integer}
+use Rattle.elab_meaning.specs.Wired.{type_of, whole_constant}
+use Rattle.body_meaning.specs.Tree.{Decl}
+use Rattle.body_meaning.specs.Tree as tree
+use Rattle.body_meaning.specs.Stmts.{declaration}
+use Rattle.wire_instances.specs.declared.plan.Made.{Made}
+use Rattle.wire_instances.specs.declared.plan.Maker.{Maker}
+use Rattle.wire_pairs.specs.declared.facts.Bracket.{Bracket}
+use Rattle.wire_pairs.specs.declared.facts.ElementFacts.{ElementFacts}
+use Rattle.wire_pairs.specs.declared.facts.InstanceFacts.{InstanceFacts}
+use Rattle.wire_pairs.specs.declared.facts.LineFacts.{LineFacts}
+use Rattle.wire_pairs.specs.declared.facts.LineFacts.TheVariants as line_facts
+use Rattle.wire_pairs.specs.declared.facts.Unlinked.{Unlinked}
+use Rattle.wire_pairs.specs.declared.facts.Unlinked.TheVariants as unlinked
+use Rattle.wire_pairs.specs.Application.{made_at}
+use Rattle.wire_pairs.specs.Brackets.{is_before}
+use Rattle.wire_facts.specs.Components.{Param, Arg, Element, Line, Component, of_type, of_value, names_instance, wire, declares}
+use Rattle.wire_facts.specs.Scopes.{Base, base_of, Scope, no_scope, inside}
+
+-- ---- names
+
+-- a component, an element and a function are neither constants nor types; their names hide others, as that of a task does
+abbrev pub hides : List ℕ → Elab (Unit {0})
+hides name = add_name name (task 0)
+
+abbrev pub done : {A : Type 0} → Elab A → Elab (Unit {0})
+done work = work >>= λ _. give tt
+
+-- a function is looked at with the bodies; a header has no variables
+abbrev pub header_declared : Env → Decl → Elab (Unit {0})
+header_declared env (tree.function h body) = hides h.name
+header_declared env (tree.variables t norace vs) = give tt
+header_declared env (tree.typedef name t attrs at) = done (declaration env [] at (tree.typedef name t attrs at))
+header_declared env (tree.type_only t at) = done (declaration env [] at (tree.type_only t at))
+
+abbrev pub all_declared : Env → List Decl → Elab (Unit {0})
+all_declared env [] = give tt
+all_declared env (d ∷ ds) = header_declared env d >> all_declared env ds
+
+-- ---- refusals at a line: what has no place among those of wires is no type, or no constant, there
+
+abbrev pub unlinked_as : Unlinked → Fault → Unlinked
+unlinked_as otherwise (fault.Refused (BadType at)) = unlinked.BadType at
+unlinked_as otherwise (fault.Refused (NotConstant at)) = unlinked.NotConstant at
+unlinked_as otherwise (fault.Refused (UnknownName at)) = unlinked.UnknownName at
+unlinked_as otherwise _ = otherwise
+
+-- ---- elements
+
+-- the place of a type among those that were met
+abbrev pub place_of : (k : ℕ) → List Ty → Ty → Option ℕ
+place_of k [] t = None
+place_of k (u ∷ us) t = cond (same_type u t) (Some k) (place_of (k + 1) us t)
+
+abbrev pub added : List Ty → Ty → Option ℕ → ℕ × List Ty
+added types t (Some k) = (k, types)
+added types t None = (length types, types ++ t ∷ [])
+
+abbrev pub numbered : List Ty → Ty → ℕ × List Ty
+numbered types t = added types t (place_of 0 types t)
+
+-- behind the numbers of earlier ones
+abbrev pub args_told : Env → Pos → List Ty → (before : List ℕ) → List TypeSpec → Elab (List ℕ × List Ty)
+args_told env at types before [] = give (before, types)
+args_told env at types before (t ∷ ts) = do
+  u ← type_of env [] at t
+  args_told env at (numbered types u).1 (before ++ (numbered types u).0 ∷ []) ts
+
+-- the parameter of a bracket is an unsigned integer of 8 or 16 bits
+abbrev pub greatest_of : Pos → Option IntType → Rule (Option ℕ)
+greatest_of at (Some U8) = Ok (Some 255)
+greatest_of at (Some U16) = Ok (Some 65535)
+greatest_of at _ = refuse (BadType at)
+
+abbrev pub greatest_told : Env → Pos → Option TypeSpec → Elab (Option ℕ)
+greatest_told env at None = give None
+greatest_told env at (Some t) = do
+  u ← type_of env [] at t
+  by (greatest_of at (int_of u))
+
+-- what is told of an element, and the types that were met by then; its name is in force behind it
+abbrev pub element_told : Env → List Ty → Element → Elab (ElementFacts × List Ty)
+element_told env types e = do
+  args ← args_told env e.at types [] e.args
+  greatest ← greatest_told env e.at e.param
+  hides e.name
+  give (record { args = args.0; greatest = greatest }, args.1)
+
+abbrev pub elements_told : Env → List Ty → (before : List ElementFacts) → List Element → Elab (List ElementFacts × List Ty)
+elements_told env types before [] = give (before, types)
+elements_told env types before (e ∷ es) = do
+  one ← element_told env types e
+  elements_told env one.1 (before ++ one.0 ∷ []) es
+
+-- ---- generic components
+
+-- what an argument is, where it stands
+pub data Given : Type 0 where
+  a_type : Ty → Given
+  a_constant : Pos → Constant → Given
+
+abbrev pub given : Env → Pos → Arg → Elab Given
+given env at (of_type t) = do
+  u ← type_of env [] at t
+  give (a_type u)
+given env at (of_value e) = do
+  x ← whole_constant env [] e
+  give (a_constant (pos_of e) x)
+
+abbrev pub holds : IntType → ℤ → Bool
+holds t x = int_le (wrapped t x) x && int_le x (wrapped t x)
+
+-- a constant that the parameter's type holds
+abbrev pub ranged : Pos → IntType → ℤ → Rule Meaning
+ranged at t x = cond (holds t x) (Ok (constant t x)) (refuse (NotConstant at))
+
+abbrev pub meaning_given : (line : Pos) → Option IntType → Given → Rule Meaning
+meaning_given line None (a_type t) = Ok (type t false)
+meaning_given line None (a_constant at x) = refuse (BadType at)
+meaning_given line (Some t) (a_type u) = refuse (BadType line)
+meaning_given line (Some t) (a_constant at x) = ranged at t x.1
+
+-- the integer type of a parameter that is no type
+abbrev pub param_type : Env → Pos → Option TypeSpec → Elab (Option IntType)
+param_type env at None = give None
+param_type env at (Some t) = do
+  u ← type_of env [] at t
+  i ← by (integer at u)
+  give (Some i)
+
+-- a parameter gets its argument; its type may name earlier ones
+abbrev pub param_declared : Env → (at line : Pos) → Param → Given → Elab (Unit {0})
+param_declared env at line p x = do
+  t ← param_type env at p.ty
+  m ← by (meaning_given line t x)
+  add_name p.name m
+
+-- arguments from left to right: each is evaluated in the maker's scope, and then declared in that of the instance
+abbrev pub params_declared : Base → (maker made : Env) → (at line : Pos) → List Param → List Arg → Scope → Elab Scope
+params_declared b maker made at line (p ∷ ps) (x ∷ xs) scope = do
+  g ← given maker line x
+  more ← inside b scope (param_declared made at line p g)
+  params_declared b maker made at line ps xs more.1
+params_declared b maker made at line _ _ scope = give scope
+
+-- ---- instances
+
+-- what is seen of an instance: its scope, and what is told of its elements
+pub record Seen : Type 0 where
+  pub scope : Scope
+  pub elements : List ElementFacts
+
+abbrev pub unseen : Seen
+unseen = record { scope = no_scope; elements = [] }
+
+-- the specification of an instance, whose parameters are declared
+abbrev pub specified : Base → Env → Component → List Ty → Scope → Elab (Seen × List Ty)
+specified b env c types scope = do
+  x ← inside b scope (elements_told env types [] c.elements)
+  give (record { scope = x.1; elements = x.0.0 }, x.0.1)
+
+-- the arguments, and then the specification of the instance that they make
+abbrev pub made_by : Base → (maker made : Env) → (line : Pos) → Component → List Param → List Arg → List Ty → Elab (Seen × List Ty)
+made_by b maker made line c params args types = do
+  scope ← params_declared b maker made c.at line params args no_scope
+  specified b made c types scope
+
+-- ---- applications
+
+-- the files, the instances, and what is told of `unique` to each of them
+pub record Application : Type 0 where
+  pub components : List Component
+  pub made : List Made
+  pub envs : List Env
+
+abbrev pub no_env : Env
+no_env = record { instance = 0; uniques = []; counts = []; items = []; first_dispatch = 0 }
+
+abbrev pub env_of : Application → (instance : ℕ) → Env
+env_of app k = unwrap_or (slice_get app.envs k) no_env
+
+abbrev pub nowhere : Component
+nowhere = record { decls = []; generic = None; elements = []; lines = []; at = record { file = 0; line = 1; col = 1 } }
+
+abbrev pub component_at : Application → Option Made → Component
+component_at app None = nowhere
+component_at app (Some m) = unwrap_or (slice_get app.components m.component) nowhere
+
+abbrev pub component_of : Application → (instance : ℕ) → Component
+component_of app k = component_at app (slice_get app.made k)
+
+abbrev pub headers_declared : Env → List Component → Elab (Unit {0})
+headers_declared env [] = give tt
+headers_declared env (c ∷ cs) = all_declared env c.decls >> headers_declared env cs
+
+-- what was seen by then: of each instance, and the types that were met
+pub record Survey : Type 0 where
+  pub seen : List Seen
+  pub types : List Ty
+
+abbrev pub survey : List Seen → List Ty → Survey
+survey seen types = record { seen = seen; types = types }
+
+-- the specification of an instance that is not generic
+abbrev pub single_specified : Base → Env → Component → Option (List Param) → List Ty → Elab (Seen × List Ty)
+single_specified b env c (Some params) types = give (unseen, types)
+single_specified b env c None types = specified b env c types no_scope
+
+abbrev pub singles_specified : Application → Base → (instance : ℕ) → List Made → Survey → Elab Survey
+singles_specified app b k [] x = give x
+singles_specified app b k (m ∷ ms) x = do
+  one ← single_specified b (env_of app k) (component_of app k) (component_of app k).generic x.types
+  singles_specified app b (k + 1) ms (survey (x.seen ++ one.0 ∷ []) one.1)
+
+-- ---- lines: what is told of one, and what was seen behind it, or, where it is refused, nothing
+
+abbrev pub Behind : Type 0
+Behind = LineFacts × Option (Survey × State)
+
+abbrev pub untold : LineFacts
+untold = line_facts.Brackets None None
+
+abbrev pub goes_on : LineFacts → Survey → State → Behind
+goes_on facts x s = (facts, Some (x, s))
+
+abbrev pub refused : Unlinked → Behind
+refused e = (line_facts.Refused e, None)
+
+abbrev pub with_hidden : List ℕ → State → State
+with_hidden name st = record st { names = st.names ++ (record { name = name; meaning = task 0 } ∷ []) }
+
+abbrev pub named_then : (otherwise : Unlinked) → List ℕ → Rule (Survey × State) → Behind
+named_then otherwise name (Ok x) = goes_on untold x.0 (with_hidden name x.1)
+named_then otherwise name (Err e) = refused (unlinked_as otherwise e)
+
+abbrev pub set_at : ℕ → Seen → List Seen → List Seen
+set_at k x [] = []
+set_at zero x (y ∷ ys) = x ∷ ys
+set_at (suc k) x (y ∷ ys) = y ∷ set_at k x ys
+
+abbrev pub with_seen : ℕ → Survey → Seen × List Ty → Survey
+with_seen k x found = survey (set_at k found.0 x.seen) found.1
+
+abbrev pub new_instance : Application → Base → (maker : ℕ) → (line : Pos) → Survey → List Arg → Option ℕ → Elab Survey
+new_instance app b i line x args None = give x
+new_instance app b i line x args (Some k) = do
+  found ← made_by b (env_of app i) (env_of app k) line (component_of app k) (unwrap_or (component_of app k).generic []) args x.types
+  give (with_seen k x found)
+
+abbrev pub bracket : Pos → Result ℤ Unlinked → Option Bracket
+bracket at z = Some (record { at = at; value = z })
+
+abbrev pub bracket_found : Pos → Rule (Constant × State) → Option Bracket × Option State
+bracket_found at (Ok x) = (bracket at (Ok x.0.1), Some x.1)
+bracket_found at (Err e) = (bracket at (Err (unlinked_as (unlinked.NotConstant at) e)), None)
+
+-- a bracket in its scope, and the state behind it
+abbrev pub bracketed : Env → MaybeExpr → State → Option Bracket × Option State
+bracketed env s.no_expr st = (None, Some st)
+bracketed env (s.some_expr e) st = bracket_found (pos_of e) (whole_constant env [] e st)
+
+-- one that is not looked at, behind a refused one
+abbrev pub unlooked : MaybeExpr → Option Bracket
+unlooked s.no_expr = None
+unlooked (s.some_expr e) = bracket (pos_of e) (Err (unlinked.NotConstant (pos_of e)))
+
+abbrev pub ends_told : (turned : Bool) → (first second : Option Bracket) → LineFacts
+ends_told false first second = line_facts.Brackets first second
+ends_told true first second = line_facts.Brackets second first
+
+abbrev pub second_told : Env → (turned : Bool) → Survey → (second : MaybeExpr) → Option Bracket × Option State → Behind
+second_told env turned x second (first, None) = (ends_told turned first (unlooked second), None)
+second_told env turned x second (first, Some behind) =
+    (ends_told turned first (bracketed env second behind).0, option_map (λ after. (x, after)) (bracketed env second behind).1)
+
+abbrev pub begins_before : MaybeExpr → MaybeExpr → Bool
+begins_before (s.some_expr a) (s.some_expr b) = is_before (pos_of a) (pos_of b)
+begins_before a b = false
+
+-- the bracket that begins first in the text is looked at first
+abbrev pub wire_told : Env → (from to : MaybeExpr) → Survey → State → Behind
+wire_told env from to x st =
+    cond (begins_before to from)
+    (second_told env true x from (bracketed env to st))
+    (second_told env false x to (bracketed env from st))
+
+abbrev pub declared_then : Survey → (otherwise : Unlinked) → Rule (Unit {0} × State) → Behind
+declared_then x otherwise (Ok found) = goes_on untold x found.1
+declared_then x otherwise (Err e) = refused (unlinked_as otherwise e)
+
+abbrev pub decl_place : Decl → Pos
+decl_place (tree.typedef name t attrs at) = at
+decl_place (tree.type_only t at) = at
+decl_place (tree.variables t norace vs) = record { file = 0; line = 1; col = 1 }
+decl_place (tree.function h body) = h.at
+
+abbrev pub line_told : Application → Base → (instance line : ℕ) → Line → Survey → State → Behind
+line_told app b i k (names_instance None name at) x st = named_then (unlinked.BadType at) name (Ok (x, st))
+line_told app b i k (names_instance (Some args) name at) x st =
+    named_then (unlinked.BadType at) name (new_instance app b i at x args (made_at app.made i k) st)
+line_told app b i k (wire from to at) x st = wire_told (env_of app i) from to x st
+line_told app b i k (declares d) x st = declared_then x (unlinked.BadType (decl_place d)) (done (declaration (env_of app i) [] (decl_place d) d) st)
+
+-- the lines of an instance up to the first that is refused; what was seen by then; and the state, where none is
+pub record Told : Type 0 where
+  pub lines : List LineFacts
+  pub seen : Survey
+  pub state : Option State
+
+abbrev pub told : List LineFacts → Survey → Option State → Told
+told lines seen st = record { lines = lines; seen = seen; state = st }
+
+abbrev pub lines_behind : List LineFacts → Survey → Behind → (Survey → State → List LineFacts → Told) → Told
+lines_behind before x (f, None) next = told (before ++ f ∷ []) x None
+lines_behind before x (f, Some behind) next = next behind.0 behind.1 (before ++ f ∷ [])
+
+abbrev pub lines_told : Application → Base → (instance line : ℕ) → List Line → Survey → State → List LineFacts → Told
+lines_told app b i k [] x st before = told before x (Some st)
+lines_told app b i k (l ∷ ls) x st before =
+    lines_behind before x (line_told app b i k l x st) (λ more after lines. lines_told app b i (k + 1) ls more after lines)
+
+-- inside the instance's own scope, the implementation is one block
+abbrev pub opened : Base → Scope → State → State
+opened b scope st = record st {
+  names = take b.names st.names ++ scope.names;
+  tags = take b.tags st.tags ++ scope.tags;
+  first_name = b.names + length scope.names;
+  first_tag = b.tags + length scope.tags;
+}
+
+abbrev pub scope_of : Survey → ℕ → Scope
+scope_of x i = (unwrap_or (slice_get x.seen i) unseen).scope
+
+-- the instances from one on
+abbrev pub instances_told : Application → Base → (instance : ℕ) → List Made → Survey → Option State → List (List LineFacts) → Survey × List (List LineFacts)
+instances_told app b i [] x st before = (x, before)
+instances_told app b i (m ∷ ms) x None before = instances_told app b (i + 1) ms x None (before ++ [] ∷ [])
+instances_told app b i (m ∷ ms) x (Some st) before =
+    (λ (t : Told). instances_told app b (i + 1) ms t.seen t.state (before ++ t.lines ∷ []))
+    (lines_told app b i 0 (component_of app i).lines x (opened b (scope_of x i) st) [])
+
+abbrev pub facts_from : List Seen → List (List LineFacts) → List InstanceFacts
+facts_from (x ∷ xs) (l ∷ ls) = record { elements = x.elements; lines = l } ∷ facts_from xs ls
+facts_from _ _ = []
+
+abbrev pub all_facts : Survey × List (List LineFacts) → List InstanceFacts
+all_facts p = facts_from p.0.seen p.1
+
+-- ---- all of it
+
+abbrev pub start : State
+start = record { names = []; tags = []; first_name = 0; first_tag = 0; structs = []; locals = []; taken = []; asked = [] }
+
+abbrev pub with_lines : Application → Base → Rule (Survey × State) → Rule (List InstanceFacts)
+with_lines app b (Ok x) = Ok (all_facts (instances_told app b 0 app.made x.0 (Some x.1) []))
+with_lines app b (Err e) = Err e
+
+abbrev pub with_specifications : Application → Rule (Unit {0} × State) → Rule (List InstanceFacts)
+with_specifications app (Ok x) = with_lines app (base_of x.1) (singles_specified app (base_of x.1) 0 app.made (survey [] []) x.1)
+with_specifications app (Err e) = Err e
+
+-- `headers` is told to the headers
+abbrev pub facts_of : (headers : Env) → Application → Rule (List InstanceFacts)
+facts_of headers app = with_specifications app (headers_declared headers app.components start)
