@@ -9,7 +9,7 @@ use nm_words::{HELP, VERSION};
 // Words, the status, and the text: a whole line or trace, or how a run's text begins and how it ends.
 pub type Case<'a> = (&'a [&'a str], u8, [&'a str; 2]);
 
-pub const CASES: [Case; 43] = [
+pub const CASES: [Case; 50] = [
     (&["check", "OneC"], 0, ["races 0\n", ""]),
     (&["check", "CommentedC"], 0, ["races 0\n", ""]),
     (&["build", "OneC"], 0, [FIRST_IMAGE, BUILD_END]),
@@ -79,8 +79,31 @@ pub const CASES: [Case; 43] = [
     (
         &["run", "Two", "none.txt"],
         1,
-        ["refused E08 Two.nc:1:1 later\n", ""],
+        ["refused E09 Two.nc:1:8\n", ""],
     ),
+    (&["check", "Torn"], 1, ["refused E07 Torn.nc:1:13\n", ""]),
+    (&["check", "Behind"], 1, ["refused E07 Behind.nc:1:38\n", ""]),
+    (
+        &["check", "Real"],
+        1,
+        ["refused E08 Real.nc:1:34 float\n", ""],
+    ),
+    (
+        &["check", "Hw"],
+        1,
+        ["refused E08 Hw.nc:1:42 hwevent\n", ""],
+    ),
+    (
+        &["build", "Typed"],
+        1,
+        ["refused E08 Typed.nc:1:1 later\n", ""],
+    ),
+    (
+        &["run", "Untyped", "none.txt"],
+        1,
+        ["refused E07 Untyped.nc:1:37\n", ""],
+    ),
+    (&["check", "Boot"], 1, ["refused E07 Boot.nc:1:1\n", ""]),
     (
         &["run", "MainC", "none.txt"],
         1,

@@ -114,13 +114,19 @@ end slots 10 ran 9 sp 38fc off 0
 
 pub const USAGE: &str = "usage: nescmote MODE APP [SCHEDULE] [--budget N]\n";
 
-pub const FILES: [(&str, &[u8]); 21] = [
+pub const FILES: [(&str, &[u8]); 27] = [
     ("OneC.nc", ONE),
     ("Tight.nc", TIGHT),
     ("Odd.nc", ODD),
     ("Zero.nc", ZERO),
     ("Two.nc", NAMED_ONE),
     ("CommentedC.nc", COMMENTED),
+    ("Torn.nc", b"module Torn {"),
+    ("Behind.nc", b"module Behind { } implementation { } ;"),
+    ("Real.nc", b"module Real { } implementation { float x; }"),
+    ("Hw.nc", b"module Hw { } implementation { void f() @hwevent() { } }"),
+    ("Typed.nc", b"module Typed { } implementation { uint8_t x; error_t e; }"),
+    ("Untyped.nc", b"module Untyped { } implementation { foo_t x; }"),
     ("port.h", b"#define LED_PORT 0x0120\n"),
     ("LoopC.nc", b"\n#include \"loop.h\"\n"),
     ("loop.h", b"/* again */\n #include \"loop.h\"\n"),

@@ -7,9 +7,14 @@ use Rattle.std.specs.Prelude.{IfErr}
 use Rattle.nm_base.specs.declared.fault.Fault.{Fault}
 use Rattle.nm_base.specs.declared.fault.Fault.TheVariants as fault
 use Rattle.nm_base.specs.declared.limit.Limit.{Limit as LimitOf}
-use Rattle.nesc_preproc.specs.Sources.{Known, nothing_known}
+use Rattle.nesc_preproc.specs.Sources.{Known}
 use Rattle.nesc_preproc.specs.Expands.{Told}
-use Rattle.nesc_preproc.specs.OneExpansion.{OneExpansion, IsAnswer}
+use Rattle.application_file.specs.Read.{source_file}
+use Rattle.application_file.specs.OneReading.{OneReading, IsAnswer}
+use Rattle.boot_writes.specs.declared.form.Constant.{Constant}
+use Rattle.boot_writes.specs.Form.{HasForm}
+use Rattle.boot_writes.specs.Tokens.{spellings}
+use Rattle.boot_writes.specs.Application.{IsSource, IsStopped}
 use Rattle.mote_devices.specs.declared.state.BoardState.{BoardState}
 use Rattle.mote_devices.specs.declared.shown.Due.{Due}
 use Rattle.mote_text.specs.ImageLines.{image_of}
@@ -17,17 +22,14 @@ use Rattle.mote_text.specs.ScheduleText.{schedule_of}
 use Rattle.nm_driver.specs.declared.answer.Answer.{Answer}
 use Rattle.nm_driver.specs.declared.answer.Stop.{Stop}
 use Rattle.nm_driver.specs.declared.answer.Stop.TheVariants as stop
-use Rattle.nm_driver.specs.declared.form.Constant.{Constant}
 use Rattle.nm_words.specs.declared.mode.Mode.{Mode}
 use Rattle.nm_words.specs.declared.mode.Mode.TheVariants.{Check, Build, Run, Mote}
 use Rattle.nm_driver.specs.declared.status.Status.{Status}
 use Rattle.nm_driver.specs.declared.status.Status.TheVariants.{Done, Refused, Usage, Missing, ReadFault, WriteFault, BadSchedule, Limit, TooLarge, NoMemory, BadImage}
-use Rattle.nm_driver.specs.Form.{HasForm}
 use Rattle.nm_driver.specs.Lines.{answer_line}
-use Rattle.nm_driver.specs.NamedFiles.{FileStops, HasImage, HasRows, HasSchedule, HasSubject, ImageStops, IsRead, IsSource, IsStopped, IsTooLarge, RowsStop, ScheduleStops, SourceStops, SubjectStops, source_file, status_of}
+use Rattle.nm_driver.specs.NamedFiles.{FileStops, HasImage, HasRows, HasSchedule, HasSubject, ImageStops, IsRead, IsTooLarge, RowsStop, ScheduleStops, SourceStops, SubjectStops, status_of}
 use Rattle.nm_driver.specs.Output.{HasCause, HasText, IsDone, IsDue, IsOfSource, IsReady, Prints, Stops}
 use Rattle.nm_driver.specs.Prepared.{IfSays, IsLined, IsNoMemory, SaysOf, SaysOfSource, SaysOfSubject, fault_file, line_of}
-use Rattle.nm_driver.specs.Tokens.{spellings}
 use Rattle.nm_words.specs.Asked.{Asked, AreWords, Requested, help, request, version}
 use Rattle.nm_words.proofs.OneAnswer.{one_request}
 
@@ -191,14 +193,13 @@ not_schedule : (told : Told) (name : Option (List ℕ)) (rows : List Due) (s : S
 not_schedule told None rows s has h = absurd h
 not_schedule told (Some name) rows s has h = not_rows told name rows s has h
 
-module _ (one : OneExpansion) (told : Told) (app : List ℕ) (writes : List Constant) (source : IsSource told app writes) where
-  not_stopped : (e : Fault) (known : Known) → IsAnswer (Err e) → IsStopped told app e known → ⊥
-  not_stopped e known answers (inl reads) =
-      err_ok e source.tokens ((one told (Some nothing_known) (source_file app) (Err e) (Ok source.tokens) (Some known) (Some source.known) reads source.read answers tt).0)
+module _ (one : OneReading) (told : Told) (app : List ℕ) (writes : List Constant) (source : IsSource told app writes) where
+  not_stopped : (e : Fault) (known : Known) → IsAnswer e → IsStopped told app e known → ⊥
+  not_stopped e known answers (inl reads) = one.no_fault told app e source.tokens (Some known) (Some source.known) reads source.read answers
   not_stopped e known answers (inr h) =
       let formless = h.1 in
-      let same = (one told (Some nothing_known) (source_file app) (Ok source.tokens) (Ok formless.tokens) (Some source.known) (Some known) source.read formless.read tt tt).0 in
-      formless.none writes (subst (λ ts. HasForm app (spellings ts) writes) (ok_of source.tokens formless.tokens same) source.form)
+      let same = one.one_list told app source.tokens formless.tokens (Some source.known) (Some known) source.read formless.read in
+      formless.none writes (subst (λ ts. HasForm app (spellings ts) writes) same source.form)
 
   not_source : (e : Fault) (known : Known) → IsStopped told app e known → (status_of e ≡ ReadFault) ⊎ (status_of e ≡ NoMemory)
   not_source (fault.Refused r) known h = absurd (not_stopped (fault.Refused r) known tt h)
@@ -208,7 +209,7 @@ module _ (one : OneExpansion) (told : Told) (app : List ℕ) (writes : List Cons
   not_source (fault.TooLarge room n) known h = absurd (not_stopped (fault.TooLarge room n) known tt h)
   not_source fault.NoMemory known h = inr refl
 
-module _ (one : OneExpansion) (told : Told) where
+module _ (one : OneReading) (told : Told) where
   not_subject : (mode : Mode) (name : List ℕ) (s : Status) → HasSubject told mode name → SubjectStops told mode name s → (s ≡ ReadFault) ⊎ (s ≡ NoMemory)
   not_subject Check name s has h = subst (λ x. (x ≡ ReadFault) ⊎ (x ≡ NoMemory)) (sym h.answer) (not_source one told name has.1.writes has.1.source h.fault h.known h.stopped)
   not_subject Build name s has h = subst (λ x. (x ≡ ReadFault) ⊎ (x ≡ NoMemory)) (sym h.answer) (not_source one told name has.1.writes has.1.source h.fault h.known h.stopped)
@@ -226,7 +227,7 @@ module _ (one : OneExpansion) (told : Told) where
   unstopped words s m help e ready = absurd (let k : request m.asked ≡ help = e in cc)
   unstopped words s m version e ready = absurd (let k : request m.asked ≡ version = e in cc)
 
-module _ (one : OneExpansion) (told : Told) (words : List (List ℕ)) (good : IsDone told words) where
+module _ (one : OneReading) (told : Told) (words : List (List ℕ)) (good : IsDone told words) where
   only_read : (s : Status) → (s ≡ NoMemory → ⊥) → Stops told words s → (s ≡ Done) ⊎ (s ≡ ReadFault)
   only_read s other m =
       ⊎_elim inr (λ e. absurd (other e))

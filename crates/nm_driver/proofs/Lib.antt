@@ -4,9 +4,5 @@ pub mod Built
 pub mod NoRaces
 pub mod Runs
 pub mod Headline
-pub mod Numerals
-pub mod Reading
-pub mod Statements
-pub mod WordLists
 pub mod Written
 pub mod Writable

@@ -2,7 +2,7 @@
 use Rattle.std.proofs.Common.{◌≡◌, inl, inr, ⊎_elim, ℕ, List, [], Some, None, refl, sym, ap, subst}
 use Rattle.nm_base.specs.Outside.{AppendsPart, FilesSeen, Rose, SinkSeen, appended}
 use Rattle.nesc_preproc.specs.Expands.{Told}
-use Rattle.nesc_preproc.specs.OneExpansion.{OneExpansion}
+use Rattle.application_file.specs.OneReading.{OneReading}
 use Rattle.mote_devices.specs.declared.state.BoardState.{BoardState}
 use Rattle.nm_driver.specs.declared.answer.Stop.{Stop}
 use Rattle.nm_driver.specs.declared.answer.Stop.TheVariants as stop
@@ -105,7 +105,7 @@ module _ (words : List (List ℕ)) (board : BoardState) (files files' : FilesSee
   whole (BadImage n) text h e = (text, h, e)
 
   -- its line was taken
-  answered : OneExpansion → (s : Status) (text : List ℕ) → IsDue files.texts words board s text → (s ≡ ReadFault → Rose files.faults files'.faults)
+  answered : OneReading → (s : Status) (text : List ℕ) → IsDue files.texts words board s text → (s ≡ ReadFault → Rose files.faults files'.faults)
       → IfMissing s (λ name. Rose (files.misses name) (files'.misses name)) → (r : Status) → r ≡ s → out'.taken ≡ appended out.taken text → IsAnswer words board r files files' out out'
   answered one s text due failed missed r is taken = subst (λ x. IsAnswer words board x files files' out out') (sym is) (record {
     same = same;
@@ -119,7 +119,7 @@ module _ (words : List (List ℕ)) (board : BoardState) (files files' : FilesSee
     output = whole s text due.is_text taken;
   })
 
-  pub ended : OneExpansion → (stop : Stop) (r : Status)
+  pub ended : OneReading → (stop : Stop) (r : Status)
       → IfSays stop (λ a. (b : BoardState) → IsDue files.texts words b a.status (line_of a))
       → IfSays stop (λ a. a.status ≡ ReadFault → Rose files.faults files'.faults)
       → IfSays stop (λ a. IfMissing a.status (λ name. Rose (files.misses name) (files'.misses name)))

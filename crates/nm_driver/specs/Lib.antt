@@ -1,5 +1,3 @@
-pub mod Tokens
-pub mod Form
 pub mod Status
 pub mod Lines
 pub mod RunText

@@ -1,24 +1,17 @@
 -- What the files that the words name give, and why one of them stops the call (own).
-use Rattle.std.specs.Prelude.{◌≡◌, ◌<◌, ◌≤◌, ◌⊎◌, ℕ, ◌+◌, List, [], ◌++◌, Option, Some, None, Result, Ok, Err, length, map, codes, slice_get}
+use Rattle.std.specs.Prelude.{◌≡◌, ◌<◌, ◌≤◌, ◌⊎◌, ℕ, ◌+◌, List, [], Option, Some, None, Ok, Err, length}
 use Rattle.nm_base.specs.declared.limit.TheConstants.{MAX_FILE, MAX_SCHEDULE}
 use Rattle.nm_base.specs.declared.limit.Limit.{Limit as LimitOf}
 use Rattle.nm_base.specs.declared.limit.Which.TheVariants as which
-use Rattle.nm_base.specs.declared.refusal.Left.TheVariants.{Later}
-use Rattle.nm_base.specs.declared.refusal.Refusal.{Refusal}
-use Rattle.nm_base.specs.declared.refusal.Refusal.TheVariants.{LeftOut}
 use Rattle.nm_base.specs.declared.fault.Fault.{Fault}
 use Rattle.nm_base.specs.declared.fault.Fault.TheVariants as fault
-use Rattle.nm_base.specs.declared.token.Token.{Token}
-use Rattle.nesc_preproc.specs.Sources.{Known, nothing_known}
-use Rattle.nesc_preproc.specs.Expands.{Told, Expands}
+use Rattle.nesc_preproc.specs.Sources.{Known}
+use Rattle.nesc_preproc.specs.Expands.{Told}
 use Rattle.mote_devices.specs.declared.shown.Due.{Due}
 use Rattle.mote_text.specs.ImageLines.{image_of}
 use Rattle.mote_text.specs.ScheduleText.{schedule_of}
-use Rattle.nm_driver.specs.Tokens.{spellings}
 use Rattle.nesc_core.specs.Plain.{Program}
-use Rattle.core_meaning.specs.BootBody.{constant_writes_program}
-use Rattle.nm_driver.specs.Form.{HasForm, constant_of}
-use Rattle.nm_driver.specs.declared.form.Constant.{Constant}
+use Rattle.boot_writes.specs.Application.{HasProgram, IsStopped}
 use Rattle.nm_words.specs.declared.mode.Mode.{Mode}
 use Rattle.nm_words.specs.declared.mode.Mode.TheVariants.{Mote}
 use Rattle.nm_driver.specs.declared.status.Status.{Status}
@@ -99,51 +92,6 @@ ImageStops told name (BadImage line) = HasBadLine told name line
 ImageStops told name status = FileStops told name status
 
 -- ---- an application
-
-abbrev pub source_file : List ℕ → List ℕ
-source_file app = app ++ codes ".nc"
-
--- what reading the application's file gives, where nothing was read before, and what is known then
-abbrev pub ReadsTo : Told → List ℕ → Result (List Token) Fault → Known → Type 0
-ReadsTo told app value known = Expands told (Some nothing_known) (source_file app) value (Some known)
-
--- the application's file has the form, with these writes
-pub record IsSource (told : Told) (app : List ℕ) (writes : List Constant) : Type 0 where
-  pub tokens : List Token
-  pub known : Known
-  pub read : ReadsTo told app (Ok tokens) known
-  pub form : HasForm app (spellings tokens) writes
-
--- the wired program of a module of this name that makes these writes
-abbrev pub wired : List ℕ → List Constant → Program
-wired app writes = constant_writes_program app (map constant_of writes)
-
--- the application's files have this wired program
-pub record HasProgram (told : Told) (app : List ℕ) (program : Program) : Type 0 where
-  pub writes : List Constant
-  pub source : IsSource told app writes
-  pub is_wired : program ≡ wired app writes
-
--- the names of the application's files, in the order of reading
-pub record HasNames (told : Told) (app : List ℕ) (names : ℕ → Option (List ℕ)) : Type 0 where
-  pub tokens : List Token
-  pub known : Known
-  pub read : ReadsTo told app (Ok tokens) known
-  pub are : names ≡ slice_get known.names
-
--- the application's file is read, and has not the form
-pub record IsFormless (told : Told) (app : List ℕ) (known : Known) : Type 0 where
-  pub tokens : List Token
-  pub read : ReadsTo told app (Ok tokens) known
-  pub none : (writes : List Constant) → HasForm app (spellings tokens) writes → ⊥
-
--- a form that is not built yet, at the beginning of the application's file
-abbrev pub later : Refusal
-later = LeftOut (record { file = 0; line = 1; col = 1 }) Later
-
--- why there is no wired program of the application's files
-abbrev pub IsStopped : Told → List ℕ → Fault → Known → Type 0
-IsStopped told app e known = ReadsTo told app (Err e) known ⊎ ((e ≡ fault.Refused later) × IsFormless told app known)
 
 -- the answer that a fault gives
 abbrev pub status_of : Fault → Status

@@ -16,7 +16,9 @@ use Rattle.nm_words.specs.Texts.{help_text, version_text}
 use Rattle.nm_driver.specs.Lines.{answer_line}
 use Rattle.nm_driver.specs.RunText.{IsReportText, build_text, run_text}
 use Rattle.nm_driver.specs.MeetsProgram.{MeetsProgram}
-use Rattle.nm_driver.specs.NamedFiles.{HasImage, HasNames, HasProgram, HasSchedule, HasSubject, IsStopped, ScheduleStops, SubjectStops, source_file}
+use Rattle.application_file.specs.Read.{source_file}
+use Rattle.boot_writes.specs.Application.{HasNames, HasProgram, IsStopped}
+use Rattle.nm_driver.specs.NamedFiles.{HasImage, HasSchedule, HasSubject, ScheduleStops, SubjectStops}
 use Rattle.nm_words.specs.declared.mode.Mode.{Mode}
 use Rattle.nm_words.specs.declared.mode.Mode.TheVariants.{Check, Build, Run, Mote}
 use Rattle.nm_driver.specs.declared.status.Status.{Status}

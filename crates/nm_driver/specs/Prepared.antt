@@ -3,7 +3,7 @@ use Rattle.std.specs.Prelude.{◌≡◌, ◌⊎◌, ℕ, List, [], ◌++◌, Opt
 use Rattle.nm_base.specs.declared.fault.Fault.{Fault}
 use Rattle.nm_base.specs.declared.fault.Fault.TheVariants as fault
 use Rattle.nm_base.specs.Outside.{AppendsPart, FilesSeen, IsReadBy, Rose, SinkSeen, appended}
-use Rattle.nesc_preproc.specs.Sources.{Known, nothing_known}
+use Rattle.nesc_preproc.specs.Sources.{Known}
 use Rattle.nesc_preproc.specs.Expands.{Told}
 use Rattle.mote_devices.specs.declared.state.BoardState.{BoardState}
 use Rattle.mote_devices.specs.declared.shown.Due.{Due}
@@ -15,7 +15,7 @@ use Rattle.mote_run.specs.RunText.{mote_text}
 use Rattle.nm_driver.specs.declared.answer.Answer.{Answer}
 use Rattle.nm_driver.specs.declared.answer.Stop.{Stop}
 use Rattle.nm_driver.specs.declared.answer.Stop.TheVariants as stop
-use Rattle.nm_driver.specs.declared.form.Constant.{Constant}
+use Rattle.boot_writes.specs.declared.form.Constant.{Constant}
 use Rattle.nm_driver.specs.declared.subject.Built.{Built}
 use Rattle.nm_driver.specs.declared.subject.Head.{Head}
 use Rattle.nm_driver.specs.declared.subject.Subject.{Subject}
@@ -27,8 +27,10 @@ use Rattle.nm_words.specs.declared.mode.Mode.TheVariants.{Mote}
 use Rattle.nm_driver.specs.declared.status.Status.{Status}
 use Rattle.nm_driver.specs.declared.status.Status.TheVariants.{Done, Missing, ReadFault, WriteFault, BadSchedule, Limit, NoMemory, BadImage}
 use Rattle.nm_driver.specs.Lines.{answer_line}
-use Rattle.nm_driver.specs.Form.{constant_of}
-use Rattle.nm_driver.specs.NamedFiles.{ImageStops, IsStopped, source_file, status_of, wired}
+use Rattle.application_file.specs.Read.{source_file}
+use Rattle.boot_writes.specs.Form.{constant_of}
+use Rattle.boot_writes.specs.Application.{IsStopped, wired}
+use Rattle.nm_driver.specs.NamedFiles.{ImageStops, status_of}
 use Rattle.nm_driver.specs.RunText.{trace_line}
 use Rattle.nm_driver.specs.Output.{IfMissing, Prints, file_of}
 
@@ -73,10 +75,6 @@ IsTextFault text.NoMemory = ⊥
 IsTextFault _ = Unit {0}
 
 -- ---- the application's file
-
--- nothing is known where memory ran out
-abbrev pub known_in : Option Known → Known
-known_in known = unwrap_or known nothing_known
 
 -- the name of the file in which a fault stands, where it is a refusal
 abbrev pub fault_file : Known → List ℕ → Fault → List ℕ

@@ -4,17 +4,13 @@
 mod answer;
 mod compile;
 mod files;
-mod form;
 mod laws;
-mod number;
 mod prepared;
 mod report;
 mod source;
 mod status;
 mod subject;
-mod tokens;
 mod top_call;
-mod wired;
 
 pub use laws::printed_image_runs_its_source;
 pub use status::Status;

@@ -1,36 +1,28 @@
 //! What an application's file gives.
 
-ghost use Rattle.std.specs.Prelude.{◌≡◌, ℕ, List, [], Some, IfOk, IfErr, unwrap_or};
+ghost use Rattle.std.specs.Prelude.{◌≡◌, [], Some, IfOk, IfErr, unwrap_or};
 ghost use Rattle.nesc_preproc.specs.Expands.{Told};
 ghost use Rattle.nesc_preproc.specs.Kept.{name_at};
 ghost use Rattle.nesc_core.specs.View.{program_of};
-ghost use Rattle.nm_driver.specs.Form.{HasForm};
+ghost use Rattle.application_file.specs.Read.{source_file};
+ghost use Rattle.boot_writes.specs.Application.{HasNames, HasProgram, known_in};
 ghost use Rattle.nm_driver.specs.Lines.{answer_line};
-ghost use Rattle.nm_driver.specs.NamedFiles.{HasNames, HasProgram, IsSource, later, status_of};
-ghost use Rattle.nm_driver.specs.Prepared.{IfSays, IsApplication, IsNoMemory, Reads, SaysOfSource, fault_file, known_in, line_of};
+ghost use Rattle.nm_driver.specs.NamedFiles.{status_of};
+ghost use Rattle.nm_driver.specs.Prepared.{IfSays, IsApplication, IsNoMemory, Reads, SaysOfSource, fault_file, line_of};
 
 use crate::answer::{Answer, Stop};
-use crate::form::{Constant, writes_of};
 use crate::status::Status;
-use crate::tokens::spellings;
-use crate::wired::wired_program;
 use nesc_core::Program;
-use nesc_preproc::{Reading, expand};
-use nm_base::{Fault, Files, Left, Name, NoMemory, Pos, Refusal};
+use nesc_preproc::Reading;
+use nm_base::{Fault, Files, Name, NoMemory};
 use std::alloc::Global;
 
-// The form is not built yet.
-fn later() -> Fault
-    ensures { result ≡ Fault.Refused later }
+// The name of the application's file.
+fn source_file(alloc: Global, app: &str) -> Result<Name, NoMemory>
+    ensures { IfOk result (λ name. name ≡ source_file app.now) }
 {
-    Fault::Refused(Refusal::LeftOut(
-        Pos {
-            file: 0,
-            line: 1,
-            col: 1,
-        },
-        Left::Later,
-    ))
+    let file = format!(in alloc; "{app}.nc")?;
+    Name::new(alloc, file.as_bytes())
 }
 
 // The name of the file in which a refusal stands.
@@ -82,37 +74,6 @@ pub(crate) struct Application {
     pub reading: Reading,
 }
 
-// The writes of an application, and the files that were read for it.
-#[derive(Drop)]
-struct Source {
-    writes: Vec<Constant>,
-    reading: Reading,
-}
-
-// The writes of an application, whose file is `app.nc`, where it has the form.
-fn read_writes<F: Files>(alloc: Global, files: &mut F, app: &str) -> Result<Source, Stop>
-    ensures outside { Reads result (F.seen files.old) (F.seen files.new) }
-    ensures form { IfOk result (λ s. (tokens : List (List ℕ)) × HasForm app.now tokens s.writes.items) }
-    ensures writes { IfOk result (λ s. (told : Told) → (F.seen files.old).texts ≡ Some told → IsSource told app.now s.writes.items) }
-    ensures names { IfOk result (λ s. (told : Told) → (F.seen files.old).texts ≡ Some told → HasNames told app.now (name_at s.reading)) }
-    ensures says { IfErr result (λ s. IfSays s (SaysOfSource (F.seen files.old).texts app.now)) }
-{
-    let file = format!(in alloc; "{app}.nc")?;
-    let file = Name::new(alloc, file.as_bytes())?;
-    let mut reading = Reading::new(alloc);
-    let tokens = match expand(alloc, files, &mut reading, &file) {
-        Ok(tokens) => spellings(alloc, tokens)?,
-        Err(fault) => return Err(says_fault(fault_file(&reading, file, &fault)?, fault)),
-    };
-    match writes_of(alloc, app, &tokens)? {
-        Some(writes) => Ok(Source { writes, reading }),
-        None => {
-            let fault = later();
-            Err(says_fault(fault_file(&reading, file, &fault)?, fault))
-        }
-    }
-}
-
 /// The wired program of the application `app`, whose file is `app.nc`.
 pub(crate) fn read_application<F: Files>(
     alloc: Global,
@@ -125,10 +86,12 @@ pub(crate) fn read_application<F: Files>(
     ensures names { IfOk result (λ a. (told : Told) → (F.seen files.old).texts ≡ Some told → HasNames told app.now (name_at a.reading)) }
     ensures says { IfErr result (λ s. IfSays s (SaysOfSource (F.seen files.old).texts app.now)) }
 {
-    let source = read_writes(alloc, files, app)?;
-    let program = wired_program(alloc, app, &source.writes)?;
-    Ok(Application {
-        program,
-        reading: source.reading,
-    })
+    let mut reading = Reading::new(alloc);
+    match boot_writes::read_application(alloc, files, &mut reading, app) {
+        Ok(program) => Ok(Application { program, reading }),
+        Err(fault) => {
+            let file = source_file(alloc, app)?;
+            Err(says_fault(fault_file(&reading, file, &fault)?, fault))
+        }
+    }
 }

@@ -1,21 +1,28 @@
 use Rattle.std.proofs.Common.{ap, ◌∙◌}
-use Rattle.nm_driver.specs.NamedFiles.{wired}
+use Rattle.boot_writes.specs.Application.{known_in}
+use Rattle.nm_driver.specs.Lines.{answer_line}
+use Rattle.nm_driver.specs.NamedFiles.{status_of}
+use Rattle.nm_driver.specs.Prepared.{fault_file}
+use Rattle.nm_driver.proofs.Causes.{if_says_three}
 use Rattle.nm_driver.proofs.Writable.{good_writes}
 use Rattle.nm_driver.proofs.source.read_application.Goals as goal
 
-pub returns-clause-wired : goal.returns-clause-wired
-returns-clause-wired g c =
-    let form = c.in_ok-source.ensures.form.1 in
-    record {
-      app = c.args.app.now;
-      writes = c.in_ok-source.source.writes.items;
-      good = good_writes form.body c.in_ok-source.source.writes.items form.statements form.few;
-      is = c.in_ok-program.ensures ∙ ap (wired c.args.app.now) c.deref.ensures.value;
-    }
+pub returns-in-Ok-clause-wired : goal.returns-in-Ok-clause-wired
+returns-in-Ok-clause-wired g c =
+    let w = c.in-Ok.ensures.wired in
+    record { app = c.args.app.now; writes = w.writes; good = good_writes w.form.body w.writes w.form.statements w.form.few; is = w.is_wired }
 
-pub returns-clause-program : goal.returns-clause-program
-returns-clause-program g c told h = record {
-  writes = c.in_ok-source.source.writes.items;
-  source = c.in_ok-source.ensures.writes told h;
-  is_wired = c.in_ok-program.ensures ∙ ap (wired c.args.app.now) c.deref.ensures.value;
-}
+pub returns-in_ok-fault_file-in-Err-clause-says : goal.returns-in_ok-fault_file-in-Err-clause-says
+returns-in_ok-fault_file-in-Err-clause-says g c =
+    let e = c.in-Err.fault in
+    let known = known_in c.read_application.new.reading in
+    if_says_three c.says_fault.result
+    (λ a status line found. record {
+      cause = e;
+      known = known;
+      found = found;
+      is_status = status;
+      is_line = line ∙ ap (λ n. answer_line n (status_of e)) c.in_ok-fault_file-in-Err.ensures ∙ ap (λ n. answer_line (fault_file known n e) (status_of e)) c.in_ok-file-in-Err.ensures;
+      source = λ files h. c.in-Err.ensures.stopped files h c.new-reading.ensures;
+    })
+    c.says_fault.ensures.status c.says_fault.ensures.line c.says_fault.ensures.found

@@ -1,0 +1,8 @@
+//! The file of an application: read behind the prelude, and parsed as a component.
+#![tactic(auto)]
+
+mod laws;
+mod read;
+
+pub use laws::one_reading;
+pub use read::read_component;

@@ -1,0 +1,4 @@
+pub mod Numerals
+pub mod Statements
+pub mod WordLists
+pub mod Settled
