@@ -82,7 +82,11 @@ pub const CASES: [Case; 50] = [
         ["refused E09 Two.nc:1:8\n", ""],
     ),
     (&["check", "Torn"], 1, ["refused E07 Torn.nc:1:13\n", ""]),
-    (&["check", "Behind"], 1, ["refused E07 Behind.nc:1:38\n", ""]),
+    (
+        &["check", "Behind"],
+        1,
+        ["refused E07 Behind.nc:1:38\n", ""],
+    ),
     (
         &["check", "Real"],
         1,

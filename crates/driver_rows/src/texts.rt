@@ -124,9 +124,18 @@ pub const FILES: [(&str, &[u8]); 27] = [
     ("Torn.nc", b"module Torn {"),
     ("Behind.nc", b"module Behind { } implementation { } ;"),
     ("Real.nc", b"module Real { } implementation { float x; }"),
-    ("Hw.nc", b"module Hw { } implementation { void f() @hwevent() { } }"),
-    ("Typed.nc", b"module Typed { } implementation { uint8_t x; error_t e; }"),
-    ("Untyped.nc", b"module Untyped { } implementation { foo_t x; }"),
+    (
+        "Hw.nc",
+        b"module Hw { } implementation { void f() @hwevent() { } }",
+    ),
+    (
+        "Typed.nc",
+        b"module Typed { } implementation { uint8_t x; error_t e; }",
+    ),
+    (
+        "Untyped.nc",
+        b"module Untyped { } implementation { foo_t x; }",
+    ),
     ("port.h", b"#define LED_PORT 0x0120\n"),
     ("LoopC.nc", b"\n#include \"loop.h\"\n"),
     ("loop.h", b"/* again */\n #include \"loop.h\"\n"),
