@@ -5,4 +5,4 @@ mod laws;
 mod read;
 
 pub use laws::one_reading;
-pub use read::read_component;
+pub use read::{APPLICATION, read_component, source_file};

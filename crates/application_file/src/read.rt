@@ -15,7 +15,7 @@ use nm_base::{Fault, Files, Name, NoMemory, Token};
 use std::alloc::Global;
 
 /// The number of the application's file: files have numbers in the order of reading, and the prelude has 0.
-const APPLICATION: u32 = 1;
+pub const APPLICATION: u32 = 1;
 
 /// The type names that the prelude declares.
 const TYPE_WORDS: [&[u8]; 8] = [
@@ -50,8 +50,8 @@ fn prelude_types(alloc: Global) -> Result<TypeNames, NoMemory>
     Ok(names)
 }
 
-// The name of the application's file.
-fn source_name(alloc: Global, app: &str) -> Result<Name, NoMemory>
+/// The name of the application's file.
+pub fn source_file(alloc: Global, app: &str) -> Result<Name, NoMemory>
     ensures { IfOk result (λ name. name ≡ source_file app.now) }
 {
     let file = format!(in alloc; "{app}.nc")?;
@@ -69,7 +69,7 @@ fn read_tokens<F: Files>(
     ensures expanded { (told : Told) → (F.seen files.old).texts ≡ Some told → reading.old ≡ Some nothing_known → Expanded told app.now (tokens_of result) reading.new }
 {
     let prelude = Name::new(alloc, b"prelude")?;
-    let name = source_name(alloc, app)?;
+    let name = source_file(alloc, app)?;
     expand(alloc, files, reading, &prelude)?;
     expand(alloc, files, reading, &name)
 }

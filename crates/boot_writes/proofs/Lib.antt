@@ -1,4 +1,1 @@
-pub mod Numerals
-pub mod Statements
-pub mod WordLists
 pub mod Settled

@@ -1,5 +1,5 @@
 -- What the files of an application say, and why they say nothing (own).
-use Rattle.std.specs.Prelude.{◌≡◌, ◌⊎◌, ℕ, List, Option, Some, Result, Ok, Err, map, slice_get, unwrap_or}
+use Rattle.std.specs.Prelude.{◌≡◌, ◌⊎◌, ℕ, List, Option, Some, Result, Ok, Err, slice_get, unwrap_or}
 use Rattle.nm_base.specs.declared.refusal.Left.TheVariants.{Later}
 use Rattle.nm_base.specs.declared.refusal.Refusal.{Refusal}
 use Rattle.nm_base.specs.declared.refusal.Refusal.TheVariants.{LeftOut}
@@ -9,11 +9,11 @@ use Rattle.nm_base.specs.declared.fault.Fault.TheVariants as fault
 use Rattle.nesc_preproc.specs.Sources.{Known, nothing_known}
 use Rattle.nesc_preproc.specs.Expands.{Told}
 use Rattle.nesc_core.specs.Plain.{Program}
-use Rattle.core_meaning.specs.BootBody.{constant_writes_program}
 use Rattle.application_file.specs.Read.{Reads, application}
-use Rattle.boot_writes.specs.Tokens.{spellings}
-use Rattle.boot_writes.specs.Form.{HasForm, constant_of}
-use Rattle.boot_writes.specs.declared.form.Constant.{Constant}
+use Rattle.write_forms.specs.Tokens.{spellings}
+use Rattle.write_forms.specs.Form.{HasForm}
+use Rattle.write_forms.specs.Wired.{wired}
+use Rattle.write_forms.specs.declared.form.Constant.{Constant}
 
 -- the application's file gives these tokens, or is refused so, and then this is known
 abbrev pub ReadsTo : Told → List ℕ → Result (List Token) Fault → Known → Type 0
@@ -25,10 +25,6 @@ pub record IsSource (told : Told) (app : List ℕ) (writes : List Constant) : Ty
   pub known : Known
   pub read : ReadsTo told app (Ok tokens) known
   pub form : HasForm app (spellings tokens) writes
-
--- the wired program of a module of this name that makes these writes
-abbrev pub wired : List ℕ → List Constant → Program
-wired app writes = constant_writes_program app (map constant_of writes)
 
 -- the application's files have this wired program
 pub record HasProgram (told : Told) (app : List ℕ) (program : Program) : Type 0 where

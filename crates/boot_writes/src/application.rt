@@ -7,19 +7,14 @@ ghost use Rattle.nesc_preproc.specs.Expands.{Told};
 ghost use Rattle.nesc_preproc.specs.Kept.{name_at};
 ghost use Rattle.nesc_preproc.specs.Sources.{nothing_known};
 ghost use Rattle.boot_writes.specs.Application.{HasNames, HasProgram, IsSource, IsStopped, IsWired, known_in, later};
-ghost use Rattle.boot_writes.specs.Form.{HasForm};
+ghost use Rattle.write_forms.specs.Form.{HasForm};
 
-use crate::form::{Constant, writes_of};
-use crate::tokens::spellings;
-use crate::wired::wired_program;
-use application_file::read_component;
+use application_file::{APPLICATION, read_component};
 use nesc_core::Program;
 use nesc_preproc::Reading;
 use nm_base::{Fault, Files, Left, Pos, Refusal};
 use std::alloc::Global;
-
-/// The number of the application's file, behind the prelude.
-const APPLICATION: u32 = 1;
+use write_forms::{Constant, spellings, wired_program, writes_of};
 
 // The form is not built yet.
 fn later() -> Fault

@@ -18,10 +18,10 @@ use Rattle.nesc_grammar.specs.Production.{production}
 use Rattle.nesc_parse_types.specs.Gives.{Fails, Found, Gives, form_in, expr_in, place}
 use Rattle.nesc_parse_types.specs.declared.stop.Stop.{Stop}
 use Rattle.nesc_parse_types.proofs.Guards.{open_guard, free_guard}
-use Rattle.nesc_parse_stmts.specs.Parts as parts
+use Rattle.nesc_simple_stmts.specs.Parts as parts
 use Rattle.nesc_parse_stmts.specs.Stmts.{stmt_in, label_in, cases_in}
 use Rattle.nesc_declarators.specs.Locals.{local_in}
-use Rattle.nesc_parse_stmts.proofs.Guards.{same_guard, or_none, taken, sub_case, fails_with}
+use Rattle.nesc_simple_stmts.proofs.Guards.{same_guard, or_none, taken, sub_case, fails_with}
 
 -- ---- an expression that its first token tells
 
@@ -175,40 +175,6 @@ module _ (d : ℕ) (names : Names) (ts : List Token) where
   pub stmt_body : (j : Jumps) → (ahead names ts ≡ s.LBrace → ⊥) → form_in d (parts.switch_body j) names ts ≡ stmt_in d (spec.in_switch j) names ts
   unfolding read
   stmt_body j h = in_stmt j (ahead names ts) h
-
--- ---- an expression that may be left out
-
-module _ (d : ℕ) (names : Names) (ts : List Token) where
-  some_begun : read 0 (phrase production 0) (map Some (expr 0)) (place names ts) ≡ Err (stop (starts (map Some (expr 0)) (ahead names ts)) ts)
-  unfolding read phrase
-  some_begun = ap (λ (b : Bool). Err (stop b ts)) (sym (or_none (begins_expr (ahead names ts))))
-
-  once : (x : Answer Operand) → ◌≡◌ {A = Answer (Option Operand)} (◌>>=◌ {B = Option Operand × Place} (◌>>=◌ {B = Operand × Place} x (λ u. Ok (u.0, u.1))) (λ u. Ok (Some u.0, u.1))) (◌>>=◌ {B = Option Operand × Place} x (λ u. Ok (Some u.0, u.1)))
-  once (Ok u) = refl
-  once (Err e) = refl
-
-  some_is : form_in d (map Some (expr 0)) names ts ≡ (expr_in d 0 names ts >>= λ u. Ok (Some u.0, u.1))
-  unfolding read
-  some_is = once (expr_in d 0 names ts)
-
-  pub some_case : begins_expr (ahead names ts) ≡ true → form_in d spec.some_expr names ts ≡ (expr_in d 0 names ts >>= λ u. Ok (Some u.0, u.1))
-  unfolding read
-  some_case h =
-      taken (starts (map Some (expr 0)) (ahead names ts)) (guarded d (map Some (expr 0)) (place names ts) (form_in d (map Some (expr 0)) names ts)) (Ok (None, place names ts)) (expr_in d 0 names ts >>= λ u. Ok (Some u.0, u.1))
-      (or_none (begins_expr (ahead names ts)) ∙ h) (same_guard d (map Some (expr 0)) (place names ts) some_begun ∙ some_is)
-
-  pub none_case : begins_expr (ahead names ts) ≡ false → form_in d spec.some_expr names ts ≡ Ok (None, place names ts)
-  unfolding read
-  none_case h = rw (or_none (begins_expr (ahead names ts)) ∙ h) refl
-
-  found : (x : Answer Operand) (a : Operand) (q : Place) → x ≡ Ok (a, q) → ◌≡◌ {A = Answer (Option Operand)} (◌>>=◌ {B = Option Operand × Place} x (λ u. Ok (Some u.0, u.1))) (Ok (Some a, q))
-  found x a q h = rw h refl
-
-  pub some_read : begins_expr (ahead names ts) ≡ true → (a : Operand) (rest : List Token) → expr_in d 0 names ts ≡ Ok (a, place names rest) → form_in d spec.some_expr names ts ≡ Ok (Some a, place names rest)
-  some_read h a rest e = some_case h ∙ found (expr_in d 0 names ts) a (place names rest) e
-
-  pub some_fails : begins_expr (ahead names ts) ≡ true → (r : Stop) → Fails r (expr_in d 0 names ts) → Fails r (form_in d spec.some_expr names ts)
-  some_fails h r e = subst (Fails r) (sym (some_case h)) (fails_with (expr_in d 0 names ts) (λ u. Ok (Some u.0, u.1)) r e)
 
 -- ---- behind the body of an `if`
 

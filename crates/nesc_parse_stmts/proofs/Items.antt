@@ -21,8 +21,8 @@ use Rattle.nesc_parse_types.specs.declared.stop.Stop.{Stop}
 use Rattle.nesc_parse_types.specs.declared.stop.Stop.TheVariants as rust
 use Rattle.nesc_parse_types.specs.Gives.{Fails}
 use Rattle.nesc_parse_types.proofs.Guards.{open_guard}
-use Rattle.nesc_parse_stmts.specs.Parts as parts
-use Rattle.nesc_parse_stmts.proofs.Guards.{or_none, fails_with}
+use Rattle.nesc_simple_stmts.specs.Parts as parts
+use Rattle.nesc_simple_stmts.proofs.Guards.{or_none, fails_with}
 
 -- ---- turns, whatever one of them reads
 

@@ -15,9 +15,9 @@ use Rattle.nesc_parse_types.specs.declared.stop.Stop.{Stop}
 use Rattle.nesc_parse_types.specs.Gives.{Fails, Found, Gives, form_in, place}
 use Rattle.nesc_parse_types.proofs.Guards.{open_guard}
 use Rattle.nesc_parse_exprs.specs.Stops.{StopsAt}
-use Rattle.nesc_parse_stmts.specs.Parts as parts
+use Rattle.nesc_simple_stmts.specs.Parts as parts
 use Rattle.nesc_parse_stmts.specs.Stmts.{stmt_in, label_in, cases_in}
-use Rattle.nesc_parse_stmts.proofs.Guards.{same_guard, stops}
+use Rattle.nesc_simple_stmts.proofs.Guards.{same_guard, stops}
 
 module _ (names : Names) (ts : List Token) where
   one_more : (d : ℕ) → 0 < d → suc (d - 1) ≡ d

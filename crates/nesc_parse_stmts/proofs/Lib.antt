@@ -1,4 +1,3 @@
-pub mod Guards
 pub mod Items
 pub mod Cases
 pub mod Levels

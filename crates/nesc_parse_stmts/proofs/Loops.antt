@@ -16,12 +16,12 @@ use Rattle.nesc_grammar.specs.Statements as spec
 use Rattle.nesc_grammar.specs.Production.{production}
 use Rattle.nesc_parse_types.specs.Gives.{Found, Gives, form_in, place}
 use Rattle.nesc_parse_types.proofs.Guards.{free_guard}
-use Rattle.nesc_parse_stmts.specs.declared.heads.ForHead.{ForHead}
-use Rattle.nesc_parse_stmts.specs.declared.heads.ForTests.{ForTests}
+use Rattle.nesc_simple_stmts.specs.declared.heads.ForHead.{ForHead}
+use Rattle.nesc_simple_stmts.specs.declared.heads.ForTests.{ForTests}
 use Rattle.nesc_tree.specs.declared.declarations.ForStart.TheVariants as start
 use Rattle.nesc_tree.specs.Level as level
-use Rattle.nesc_parse_stmts.specs.Parts as parts
-use Rattle.nesc_parse_stmts.proofs.Guards.{same_guard, or_none, scope_gives}
+use Rattle.nesc_simple_stmts.specs.Parts as parts
+use Rattle.nesc_simple_stmts.proofs.Guards.{same_guard, or_none, scope_gives}
 
 module _ (d : ℕ) (names : Names) (ts : List Token) where
   abbrev guarded_start : Form ForStart → Answer ForStart

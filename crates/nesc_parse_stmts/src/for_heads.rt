@@ -4,13 +4,11 @@ ghost use Rattle.std.specs.Prelude.{◌≡◌, ◌<◌, ◌^◌};
 ghost use Rattle.nesc_tree.specs.Changes.{all_taken_back};
 ghost use Rattle.nesc_grammar.specs.Grammar as grammar;
 ghost use Rattle.nesc_parse_types.specs.Gives.{Gives, form_in};
-ghost use Rattle.nesc_parse_stmts.specs.Parts as parts;
+ghost use Rattle.nesc_simple_stmts.specs.Parts as parts;
 
-use crate::heads::ForHead;
-use crate::parts::head_of;
-use crate::simple::{for_tests, no_start, value_start};
 use nesc_declarators::for_variables;
 use nesc_parse_types::{Found, begins_type, expect};
+use nesc_simple_stmts::{ForHead, for_tests, head_of, no_start, value_start};
 use nesc_tree::{Change, ForStart, Sort, TypeNames, ahead};
 use nm_base::Token;
 use std::alloc::Global;

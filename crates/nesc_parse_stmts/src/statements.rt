@@ -5,25 +5,30 @@ ghost use Rattle.nesc_tree.specs.Changes.{all_taken_back};
 ghost use Rattle.nesc_grammar.specs.Grammar as grammar;
 ghost use Rattle.nesc_grammar.specs.Statements as spec;
 ghost use Rattle.nesc_parse_types.specs.Gives.{Gives, form_in};
-ghost use Rattle.nesc_parse_stmts.specs.Parts as parts;
+ghost use Rattle.nesc_simple_stmts.specs.Parts as parts;
 ghost use Rattle.nesc_parse_stmts.specs.Stmts.{cases_in, label_in, stmt_in};
 
 use crate::for_heads::for_head;
-use crate::parts::{
-    added, atomic_stmt, block_stmt, boxed, case_stmt, default_stmt, do_stmt, for_stmt, if_stmt,
-    no_list, switch_stmt, while_stmt,
-};
-use crate::simple::{
-    begins_item, begins_label, begins_stmt, break_out, case_value, condition, deepens, do_test,
-    empty, eval, give_answer, go_on, in_switch, is_label,
-};
 use nesc_declarators::{begins_local, local};
+use nesc_parse_decls::{added, no_list};
 use nesc_parse_exprs::refused;
 use nesc_parse_types::{Found, Stop, expect};
 use nesc_scopes::give_back;
+use nesc_simple_stmts::{
+    atomic_stmt, begins_label, begins_stmt, block_stmt, boxed, break_out, case_stmt, case_value,
+    condition, deepens, default_stmt, do_stmt, do_test, empty, eval, for_stmt, give_answer, go_on,
+    if_stmt, in_switch, is_label, switch_stmt, while_stmt,
+};
 use nesc_tree::{Change, Jumps, Operand, Sort, Stmt, TypeNames, ahead, same_sort};
 use nm_base::{Boxed, List, Token};
 use std::alloc::Global;
+
+// Whether what stands in a block begins with a token of this sort, where labels may stand or may not.
+fn begins_item(labels: bool, jumps: Jumps, first: Sort) -> bool
+    ensures { result ≡ parts.begins_item labels jumps first }
+{
+    is_label(labels, first) || begins_local(first) || begins_stmt(jumps, first)
+}
 
 /// A statement with at most `levels` levels; `jumps` tells which of `break` and `continue` may stand in it.
 /// After it, and after a refusal, the names are what they were before it.

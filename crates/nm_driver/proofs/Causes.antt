@@ -11,9 +11,9 @@ use Rattle.nesc_preproc.specs.Sources.{Known}
 use Rattle.nesc_preproc.specs.Expands.{Told}
 use Rattle.application_file.specs.Read.{source_file}
 use Rattle.application_file.specs.OneReading.{OneReading, IsAnswer}
-use Rattle.boot_writes.specs.declared.form.Constant.{Constant}
-use Rattle.boot_writes.specs.Form.{HasForm}
-use Rattle.boot_writes.specs.Tokens.{spellings}
+use Rattle.write_forms.specs.declared.form.Constant.{Constant}
+use Rattle.write_forms.specs.Form.{HasForm}
+use Rattle.write_forms.specs.Tokens.{spellings}
 use Rattle.boot_writes.specs.Application.{IsSource, IsStopped}
 use Rattle.mote_devices.specs.declared.state.BoardState.{BoardState}
 use Rattle.mote_devices.specs.declared.shown.Due.{Due}

@@ -11,7 +11,7 @@ use Rattle.image_code.specs.Laws.{IsCompilable, RunsProgram}
 use Rattle.constant_programs.specs.Laws.{ConstantWritesCompile, ConstantWritesFit}
 use Rattle.nm_driver.specs.declared.answer.Stop.{Stop}
 use Rattle.nm_driver.specs.declared.answer.Stop.TheVariants as stop
-use Rattle.boot_writes.specs.Form.{constant_of}
+use Rattle.write_forms.specs.Form.{constant_of}
 use Rattle.nm_driver.specs.MeetsProgram.{MeetsProgram}
 use Rattle.nm_driver.specs.Prepared.{IfSays, IsApplication, IsNoMemory}
 

@@ -6,7 +6,7 @@ use Rattle.nesc_core.specs.Plain.{Program}
 use Rattle.race_checker.specs.Computed.{report_of}
 use Rattle.race_report.specs.Limit.{IsWhy}
 use Rattle.constant_reports.specs.Laws.{ConstantWritesHaveNoRaces, HasNoRaces}
-use Rattle.boot_writes.specs.Form.{constant_of}
+use Rattle.write_forms.specs.Form.{constant_of}
 use Rattle.nm_driver.specs.Prepared.{IsApplication}
 
 pub no_races : ConstantWritesHaveNoRaces → (p : Program) → IsApplication p → HasNoRaces p

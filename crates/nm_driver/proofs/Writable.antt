@@ -6,11 +6,11 @@ use Rattle.std.proofs.lemmas.Bool.{and_parts}
 use Rattle.std.proofs.lemmas.Bool.Decides.{nat_tests}
 use Rattle.std.proofs.lemmas.List.{length-map}
 use Rattle.std.proofs.lemmas.List.Elements.{All-nil, All-cons}
-use Rattle.boot_writes.specs.declared.form.Constant.{Constant}
+use Rattle.write_forms.specs.declared.form.Constant.{Constant}
 use Rattle.nesc_core.specs.Typing.{is_port}
 use Rattle.constant_programs.specs.Laws.{AreGoodWrites, IsGoodWrite}
-use Rattle.boot_writes.specs.Form.{AreStatements, IsWritten, Written, constant_of, is_device_port, is_numeral, number, numeral}
-use Rattle.boot_writes.proofs.Numerals.{test_holds}
+use Rattle.write_forms.specs.Form.{AreStatements, IsWritten, Written, constant_of, is_device_port, is_numeral, number, numeral}
+use Rattle.write_forms.proofs.Numerals.{test_holds}
 
 numeral_small : (base : ℕ) (ds : List ℕ) (v : ℕ) → numeral base ds ≡ Some v → v < 0x10000
 numeral_small base ds v h = by_test (is_numeral base ds) refl

@@ -15,7 +15,7 @@ use Rattle.mote_run.specs.RunText.{mote_text}
 use Rattle.nm_driver.specs.declared.answer.Answer.{Answer}
 use Rattle.nm_driver.specs.declared.answer.Stop.{Stop}
 use Rattle.nm_driver.specs.declared.answer.Stop.TheVariants as stop
-use Rattle.boot_writes.specs.declared.form.Constant.{Constant}
+use Rattle.write_forms.specs.declared.form.Constant.{Constant}
 use Rattle.nm_driver.specs.declared.subject.Built.{Built}
 use Rattle.nm_driver.specs.declared.subject.Head.{Head}
 use Rattle.nm_driver.specs.declared.subject.Subject.{Subject}
@@ -28,8 +28,9 @@ use Rattle.nm_driver.specs.declared.status.Status.{Status}
 use Rattle.nm_driver.specs.declared.status.Status.TheVariants.{Done, Missing, ReadFault, WriteFault, BadSchedule, Limit, NoMemory, BadImage}
 use Rattle.nm_driver.specs.Lines.{answer_line}
 use Rattle.application_file.specs.Read.{source_file}
-use Rattle.boot_writes.specs.Form.{constant_of}
-use Rattle.boot_writes.specs.Application.{IsStopped, wired}
+use Rattle.write_forms.specs.Form.{constant_of}
+use Rattle.write_forms.specs.Wired.{wired}
+use Rattle.boot_writes.specs.Application.{IsStopped}
 use Rattle.nm_driver.specs.NamedFiles.{ImageStops, status_of}
 use Rattle.nm_driver.specs.RunText.{trace_line}
 use Rattle.nm_driver.specs.Output.{IfMissing, Prints, file_of}

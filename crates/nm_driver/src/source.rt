@@ -12,18 +12,11 @@ ghost use Rattle.nm_driver.specs.Prepared.{IfSays, IsApplication, IsNoMemory, Re
 
 use crate::answer::{Answer, Stop};
 use crate::status::Status;
+use application_file::source_file;
 use nesc_core::Program;
 use nesc_preproc::Reading;
 use nm_base::{Fault, Files, Name, NoMemory};
 use std::alloc::Global;
-
-// The name of the application's file.
-fn source_file(alloc: Global, app: &str) -> Result<Name, NoMemory>
-    ensures { IfOk result (λ name. name ≡ source_file app.now) }
-{
-    let file = format!(in alloc; "{app}.nc")?;
-    Name::new(alloc, file.as_bytes())
-}
 
 // The name of the file in which a refusal stands.
 fn fault_file(reading: &Reading, file: Name, fault: &Fault) -> Result<Option<Name>, NoMemory>

@@ -1,8 +1,8 @@
 use Rattle.std.proofs.Common.{◌≡◌, inl, inr, Err, refl, sym, subst, ◌∙◌}
 use Rattle.nm_base.specs.declared.fault.Fault.TheVariants as fault
 use Rattle.boot_writes.specs.Application.{known_in}
-use Rattle.boot_writes.specs.Form.{HasForm}
-use Rattle.boot_writes.specs.Tokens.{spellings}
+use Rattle.write_forms.specs.Form.{HasForm}
+use Rattle.write_forms.specs.Tokens.{spellings}
 use Rattle.boot_writes.proofs.Settled.{fault_known, memory_stops, names_known, passed, tokens_read}
 use Rattle.boot_writes.proofs.application.read_writes.Goals as goal
 

@@ -8,13 +8,13 @@ use Rattle.nesc_tree.specs.Changes.{all_taken_back}
 use Rattle.nesc_grammar.specs.Statements as spec
 use Rattle.nesc_parse_types.specs.Gives.{Fails, Gives, form_in, place}
 use Rattle.nesc_parse_types.proofs.Many.{tested}
-use Rattle.nesc_parse_stmts.specs.Parts as parts
-use Rattle.nesc_parse_stmts.specs.Parts.{begins_item}
+use Rattle.nesc_simple_stmts.specs.Parts as parts
+use Rattle.nesc_simple_stmts.specs.Parts.{begins_item}
 use Rattle.nesc_parse_stmts.specs.Stmts.{stmt_in, cases_in}
 use Rattle.nesc_tree.specs.declared.declarations.Stmt.{Stmt}
 use Rattle.nesc_tree.specs.declared.declarations.Stmt.TheVariants as st
-use Rattle.nesc_parse_stmts.specs.declared.heads.ForHead.{ForHead}
-use Rattle.nesc_parse_stmts.proofs.Guards.{through, first_fails, second_fails, both, ends_in, scope_gives}
+use Rattle.nesc_simple_stmts.specs.declared.heads.ForHead.{ForHead}
+use Rattle.nesc_simple_stmts.proofs.Guards.{through, first_fails, second_fails, both, ends_in, scope_gives}
 use Rattle.nesc_parse_stmts.proofs.Cases.{opened, block_case, empty_case, return_case, break_case, continue_case, eval_case, too_deep, switch_sort, label_item, local_item, stmt_item, label_labelled, stmt_labelled, cases_body, stmt_body, no_else, else_case}
 use Rattle.nesc_parse_stmts.proofs.Levels.{stmt_stops, stmt_gives, cases_stop, cases_give, label_stops, label_gives, no_label}
 use Rattle.nesc_parse_stmts.proofs.Items.{AreFrom, items_at, items_begin, run, next_turn, ends, fails, falls, turn_is, another_at, another_fails, another_read}
