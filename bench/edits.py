@@ -1,4 +1,4 @@
-"""Tries the edits that stand outside the gate: those of crates whose proof takes over four minutes of a processor.
+"""Tries the edits that stand outside the gate: those of crates of more than 22 functions, which the gate would prove a second time for them.
 
 Usage: python3 bench/edits.py [CRATE ...]     (at the top of the repository; without names all crates of bench/edits)
 
