@@ -6,8 +6,6 @@ mod calls;
 mod case;
 mod item;
 mod rows;
-#[cfg(test)]
-mod tests;
 mod types;
 
 pub use body::dispatch;

@@ -11,6 +11,3 @@ pub use access::Access;
 pub use board::{AsBoard, Board, Slots};
 pub use bus::{BusOf, MoteBus};
 pub use laws::steps_show_accesses;
-
-#[cfg(test)]
-mod tests;

@@ -26,8 +26,3 @@ pub use rows::worked_rows;
 pub use schedule::{print_schedule, read_schedule};
 pub use text_fault::TextFault;
 pub use trace::{End, Event};
-
-#[cfg(test)]
-mod tests;
-#[cfg(test)]
-mod text_tests;

@@ -9,8 +9,6 @@ mod laws;
 mod rows;
 mod sizes;
 mod stack;
-#[cfg(test)]
-mod tests;
 mod top;
 mod words;
 

@@ -1,4 +1,3 @@
 pub mod Casts
-pub mod DoubledStructs
 pub mod Found
 pub mod Places

@@ -10,7 +10,6 @@ pub mod QuotientRows
 pub mod RowForms
 pub mod Rule
 pub mod SumRows
-pub mod TestPrograms
 pub mod UnaryRows
 pub mod Values
 pub mod WorkedRows

@@ -7,8 +7,6 @@ mod evaluation;
 mod literals;
 pub mod operators;
 mod rows;
-#[cfg(test)]
-mod tests;
 mod values;
 
 pub use addresses::place;

@@ -11,8 +11,6 @@ mod put;
 mod rows;
 mod scope;
 mod selection;
-#[cfg(test)]
-mod tests;
 
 pub use laws::{calls_stay, frames_are_bounded, items_are_written, links_stay};
 pub use msp_isa::{CodeFn, Item};

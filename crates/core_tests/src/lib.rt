@@ -1,0 +1,7 @@
+//! Tests of constants and of dispatch functions, in a crate of their own: a crate with tests is proved twice.
+#![tactic(auto)]
+
+#[cfg(test)]
+mod fanout;
+#[cfg(test)]
+mod types;
