@@ -1,6 +1,9 @@
 //! One call of the top call over files and a sink in memory, on a board of five devices.
 
+ghost use Rattle.std.specs.Prelude.{◌≤◌, IfOk, vec_len};
+
 use crate::cases::Case;
+use crate::left_out::LeftOut;
 use crate::texts::FILES;
 use mote_devices::{Device, Leds, Radio, Sensor, Serial, Timer};
 use nm_base::{List, MemFiles, MemSink, Name, NoMemory};
@@ -31,6 +34,17 @@ fn words(alloc: Global, all: &[&str]) -> Result<Vec<String>, NoMemory> {
     Ok(words)
 }
 
+fn board(alloc: Global) -> Result<Vec<Box<dyn Device>>, NoMemory>
+    ensures { IfOk result (λ devices. vec_len devices ≤ 8) }
+{
+    let leds: Box<dyn Device> = Box::new(alloc, Leds::new())?;
+    let timer: Box<dyn Device> = Box::new(alloc, Timer::new())?;
+    let serial: Box<dyn Device> = Box::new(alloc, Serial::new())?;
+    let radio: Box<dyn Device> = Box::new(alloc, Radio::new())?;
+    let sensor: Box<dyn Device> = Box::new(alloc, Sensor::new())?;
+    Ok(vec![in alloc; leds, timer, serial, radio, sensor]?)
+}
+
 /// The status of one call.
 pub fn answer(
     alloc: Global,
@@ -40,13 +54,22 @@ pub fn answer(
 ) -> Result<u8, NoMemory> {
     let words = words(alloc, all)?;
     let mut files = files(alloc, fail_reads)?;
-    let leds: Box<dyn Device> = Box::new(alloc, Leds::new())?;
-    let timer: Box<dyn Device> = Box::new(alloc, Timer::new())?;
-    let serial: Box<dyn Device> = Box::new(alloc, Serial::new())?;
-    let radio: Box<dyn Device> = Box::new(alloc, Radio::new())?;
-    let sensor: Box<dyn Device> = Box::new(alloc, Sensor::new())?;
-    let board = vec![in alloc; leds, timer, serial, radio, sensor]?;
-    Ok(tool(alloc, &words, &mut files, out, board).code())
+    Ok(tool(alloc, &words, &mut files, out, board(alloc)?).code())
+}
+
+/// Whether an application of one file is refused, at this place and with this word.
+pub fn is_left_out(alloc: Global, row: &LeftOut) -> Result<bool, NoMemory> {
+    let (app, text, place) = row;
+    let name = format!(in alloc; "{app}.nc")?;
+    let mut files = MemFiles::new(
+        vec![in alloc; file(alloc, name.as_str(), text.as_bytes())?]?,
+        Vec::new(alloc),
+    );
+    let mut out = MemSink::new(alloc, 20_000, Vec::new(alloc))?;
+    let words = words(alloc, &["check", app])?;
+    let status = tool(alloc, &words, &mut files, &mut out, board(alloc)?).code();
+    let wanted = format!(in alloc; "refused E08 {name}:{place}\n")?;
+    Ok(status == 1 && out.bytes() == wanted.as_bytes())
 }
 
 /// Whether a case has its status and its text.

@@ -3,10 +3,12 @@
 
 mod calls;
 mod cases;
+mod left_out;
 mod texts;
 
-use calls::{cut_short, holds};
+use calls::{cut_short, holds, is_left_out};
 use cases::CASES;
+use left_out::LEFT_OUT;
 use nm_base::NoMemory;
 use std::alloc::Global;
 use std::io::{self, Write};
@@ -26,19 +28,28 @@ fn says(alloc: Global, outside: &Outside) -> Result<(u8, Vec<u8>), NoMemory> {
     cut_short(alloc, reads.to_vec(alloc)?, *room, writes.to_vec(alloc)?)
 }
 
+fn said(holds: Result<bool, NoMemory>) -> &'static str {
+    match holds {
+        Ok(true) => "as stated",
+        Ok(false) => "otherwise",
+        Err(NoMemory) => "no memory",
+    }
+}
+
 fn main(rt: HostRuntime) -> io::Result<()> {
     let alloc = rt.alloc();
     for case in &CASES {
         let (words, status, _) = case;
-        let answer = match holds(alloc, case) {
-            Ok(true) => "as stated",
-            Ok(false) => "otherwise",
-            Err(NoMemory) => "no memory",
-        };
+        let answer = said(holds(alloc, case));
         for word in *words {
             print!(rt; "{word} ")?;
         }
         println!(rt; "-> {status}, {answer}")?;
+    }
+    for row in &LEFT_OUT {
+        let (app, _, place) = row;
+        let answer = said(is_left_out(alloc, row));
+        println!(rt; "{app} {place}: {answer}")?;
     }
     for outside in &OUTSIDE {
         match says(alloc, outside) {
