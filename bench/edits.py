@@ -1,4 +1,4 @@
-"""Tries the edits that stand outside the gate: those of crates of more than 22 functions, which the gate would prove a second time for them.
+"""Tries the edits that stand outside the gate: all but one of each crate, and all of a crate of more than 22 functions.
 
 Usage: python3 bench/edits.py [CRATE ...]     (at the top of the repository; without names all crates of bench/edits)
 
