@@ -19,7 +19,7 @@ pub trait UnitParser: Drop {
 
     ghost Parses: { (is_interface : Bool) → ℕ → ListOf TokenOf → ListOf ℕ → Names → Names → ResultOf UnitOf FaultOf → Type 0 };
 
-    /// Parses declarations.
+    /// Parses declarations; after a refusal the names are no more looked at.
     fn parse_declarations(
         &self,
         alloc: Global,
@@ -28,7 +28,6 @@ pub trait UnitParser: Drop {
         file: u32,
     ) -> Result<List<Decl>, Fault>
         ensures parsed { Declares file ts.now names.old names.new result }
-        ensures kept { OnErr result (names.new ≡ names.old) }
         ensures says { IsNoReadFault result };
 
     /// Parses a component of this name, with the declarations before it.
