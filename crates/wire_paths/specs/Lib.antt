@@ -1,0 +1,4 @@
+pub mod Wires
+pub mod Answers
+pub mod Paths
+pub mod Ground
