@@ -1,0 +1,16 @@
+mod Texts
+mod Signs
+mod Follows
+mod Runs
+mod Lists
+mod Views
+mod Names
+mod Exprs
+mod More
+mod Calls
+mod Sizes
+mod Types
+mod Fields
+mod Yields
+mod Known
+mod Law
