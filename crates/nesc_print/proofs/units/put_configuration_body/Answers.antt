@@ -1,0 +1,7 @@
+use Rattle.std.proofs.Common.{◌≡◌, OnOk, subst}
+use Rattle.nesc_print_words.specs.Lexemes.{Words}
+use Rattle.nesc_print.proofs.Behind.{behind}
+use Rattle.nesc_print.proofs.units.put_configuration_body.Goals as goal
+
+pub returns : goal.returns
+returns c = subst (λ (ws : Words). OnOk c.put_line_block.result (c.put_line_block.new.words ≡ ws)) (behind _ _ _ _ c.in_ok-word.ensures) c.put_line_block.ensures
