@@ -1,0 +1,10 @@
+use Rattle.std.proofs.Common.{◌≡◌, drop, max}
+use Rattle.nesc_core.specs.View.{stmts_of}
+use Rattle.nesc_core.specs.Weights.{stmts_levels}
+use Rattle.elab_weights.specs.Bounded.{bounded}
+use Rattle.elab_weights.proofs.level_count.+levels.Given as goal
+
+abbrev pub invariant-levels_of_all-loop-s : goal.invariant-levels_of_all-loop-s
+invariant-levels_of_all-loop-s l = record {
+  most : max l.most (bounded (stmts_levels (stmts_of (drop l.s-index l.s-items)))) ≡ bounded (stmts_levels (stmts_of l.s-items));
+}
