@@ -1,9 +1,7 @@
 -- Components as far as types and constants stand in them, as plain data (own).
 use Rattle.std.specs.Prelude.{ℕ, List, [], map, Option, Some, None, option_map}
 use Rattle.nm_base.specs.declared.pos.Pos.{Pos}
-use Rattle.nesc_tree.specs.declared.components.Part.{Part}
-use Rattle.nesc_tree.specs.declared.components.Part.TheVariants as part
-use Rattle.nesc_tree.specs.declared.components.Head as head
+use Rattle.nesc_tree.specs.declared.components.Head.{Head}
 use Rattle.nesc_tree.specs.declared.components.Elem as elem
 use Rattle.nesc_tree.specs.declared.components.GenericParam as param
 use Rattle.nesc_tree.specs.declared.components.GenericArg as arg
@@ -15,6 +13,7 @@ use Rattle.nesc_tree.specs.View.{expr_of, spec_of}
 use Rattle.body_meaning.specs.Tree.{Decl}
 use Rattle.body_meaning.specs.View.{decl_of, maybe_of}
 use Rattle.wire_units.specs.declared.loaded.Loaded.{Loaded}
+use Rattle.wire_units.specs.Units.{head_of, lines_in}
 
 -- a parameter of a generic component; a type parameter has no type
 pub record Param : Type 0 where
@@ -65,20 +64,22 @@ line_of (conf.Link from to pos) = wire (maybe_of from.param) (maybe_of to.param)
 line_of (conf.Equate x y pos) = wire (maybe_of x.param) (maybe_of y.param) pos
 line_of (conf.Decl d) = declares (decl_of d)
 
-abbrev pub component : List Decl → Pos → head.Head → List Line → Component
-component decls at h lines = record { decls = decls; generic = option_map (map param_of) h.generic; elements = map element_of h.elems; lines = lines; at = at }
+abbrev pub generic_in : Option Head → Option (List Param)
+generic_in None = None
+generic_in (Some h) = option_map (map param_of) h.generic
 
-abbrev pub no_component : List Decl → Pos → Component
-no_component decls at = record { decls = decls; generic = None; elements = []; lines = []; at = at }
-
-abbrev pub in_part : List Decl → Pos → Part → Component
-in_part decls at (part.Module m) = component decls at m.head []
-in_part decls at (part.Config c) = component decls at c.head (map line_of c.lines)
-in_part decls at (part.Interface i) = no_component decls at
-in_part decls at part.Header = no_component decls at
+abbrev pub elements_in : Option Head → List Element
+elements_in None = []
+elements_in (Some h) = map element_of h.elems
 
 abbrev pub component_of : Loaded → Component
-component_of u = in_part (map decl_of u.unit.decls) u.at u.unit.part
+component_of u = record {
+  decls = map decl_of u.unit.decls;
+  generic = generic_in (head_of u.unit.part);
+  elements = elements_in (head_of u.unit.part);
+  lines = map line_of (lines_in u.unit.part);
+  at = u.at;
+}
 
 abbrev pub components_of : List Loaded → List Component
 components_of units = map component_of units

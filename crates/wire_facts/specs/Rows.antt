@@ -1,5 +1,5 @@
 -- Worked rows: what is told of small applications, worked out by hand. A place is a line and a column.
-use Rattle.std.specs.Prelude.{◌≡◌, ℕ, ℤ, pos, Bool, true, false, List, [], ◌∷◌, codes, Option, Some, None, Result, Ok, Err}
+use Rattle.std.specs.Prelude.{◌≡◌, ℕ, ℤ, pos, false, List, [], ◌∷◌, codes, Option, Some, None, Result, Ok, Err}
 use Rattle.nm_base.specs.declared.pos.Pos.{Pos}
 use Rattle.nm_base.specs.declared.fault.Fault.{Fault}
 use Rattle.nm_base.specs.declared.fault.Fault.TheVariants as fault
@@ -20,7 +20,7 @@ use Rattle.wire_pairs.specs.declared.facts.LineFacts.TheVariants as line_facts
 use Rattle.wire_pairs.specs.declared.facts.Unlinked.{Unlinked}
 use Rattle.wire_pairs.specs.declared.facts.Unlinked.TheVariants as unlinked
 use Rattle.wire_facts.specs.Components.{Param, Arg, Element, Line, Component, of_type, of_value, names_instance, wire, declares}
-use Rattle.wire_facts.specs.Seen.{no_env, facts_of}
+use Rattle.wire_facts.specs.Seen.{facts_of}
 
 abbrev pub at : ℕ → ℕ → Pos
 at line col = record { file = 0; line = line; col = col }
@@ -61,8 +61,11 @@ single component = record { component = component; copy = 0; maker = None }
 abbrev pub made_by : ℕ → ℕ → ℕ → Made
 made_by component maker line = record { component = component; copy = 0; maker = Some (record { instance = maker; line = line }) }
 
+abbrev pub no_env : Env
+no_env = record { instance = 0; uniques = []; counts = []; items = []; first_dispatch = 0 }
+
 abbrev pub answer : List Decl → List Component → List Made → List Env → Result (List InstanceFacts) Fault
-answer decls components made envs = facts_of no_env (record { components = prelude decls ∷ components; made = made; envs = envs })
+answer decls components made envs = facts_of (record { components = prelude decls ∷ components; made = made; headers = no_env; envs = envs })
 
 -- ---- answers, short
 

@@ -1,6 +1,6 @@
 -- Scopes inside that of the headers: each instance has one of its own (nesC 1.3 Reference: a component sees the names of headers,
 -- its parameters and its elements).
-use Rattle.std.specs.Prelude.{ℕ, List, [], ◌++◌, length, take, drop, Ok, Err}
+use Rattle.std.specs.Prelude.{ℕ, ◌+◌, List, [], ◌++◌, length, take, drop, Ok, Err}
 use Rattle.nesc_types.specs.Rule.{Rule}
 use Rattle.elab_meaning.specs.Scope.{Entry, Tag}
 use Rattle.elab_meaning.specs.Elab.{State, Elab}
@@ -24,24 +24,36 @@ no_scope = record { names = []; tags = [] }
 abbrev pub scope_in : Base → State → Scope
 scope_in b s = record { names = drop b.names s.names; tags = drop b.tags s.tags }
 
--- another scope is in force
-abbrev pub with_scope : Base → Scope → State → State
-with_scope b x s = record s { names = take b.names s.names ++ x.names; tags = take b.tags s.tags ++ x.tags; first_name = b.names; first_tag = b.tags }
+-- what is in force of one component at a time: its names and tags, and where the innermost scope begins
+pub record Own : Type 0 where
+  pub scope : Scope
+  pub first_name : ℕ
+  pub first_tag : ℕ
 
--- the scope of an earlier state is in force again
-abbrev pub with_own : Base → (old : State) → State → State
-with_own b old s =
+abbrev pub own_in : Base → State → Own
+own_in b s = record { scope = scope_in b s; first_name = s.first_name; first_tag = s.first_tag }
+
+abbrev pub with_own : Base → Own → State → State
+with_own b x s =
     record s {
-      names = take b.names s.names ++ drop b.names old.names;
-      tags = take b.tags s.tags ++ drop b.tags old.tags;
-      first_name = old.first_name;
-      first_tag = old.first_tag;
+      names = take b.names s.names ++ x.scope.names;
+      tags = take b.tags s.tags ++ x.scope.tags;
+      first_name = x.first_name;
+      first_tag = x.first_tag;
     }
 
-abbrev pub back_in : {A : Type 0} → Base → (old : State) → Rule (A × State) → Rule ((A × Scope) × State)
-back_in b old (Ok x) = Ok ((x.0, scope_in b x.1), with_own b old x.1)
-back_in b old (Err e) = Err e
+-- names are declared in this scope
+abbrev pub declaring : Base → Scope → Own
+declaring b x = record { scope = x; first_name = b.names; first_tag = b.tags }
+
+-- names are declared in a block inside this scope
+abbrev pub in_block : Base → Scope → Own
+in_block b x = record { scope = x; first_name = b.names + length x.names; first_tag = b.tags + length x.tags }
+
+abbrev pub back_in : {A : Type 0} → Base → Own → Rule (A × State) → Rule ((A × Scope) × State)
+back_in b own (Ok x) = Ok ((x.0, scope_in b x.1), with_own b own x.1)
+back_in b own (Err e) = Err e
 
 -- work inside another scope, which is given as the work leaves it
 abbrev pub inside : {A : Type 0} → Base → Scope → Elab A → Elab (A × Scope)
-inside b x work = λ s. back_in b s (work (with_scope b x s))
+inside b x work = λ s. back_in b (own_in b s) (work (with_own b (declaring b x) s))

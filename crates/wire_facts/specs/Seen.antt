@@ -1,7 +1,7 @@
 -- What wires need to know of types and constants (nesC 1.3 Reference, sections 6 to 9; own: the order, and what is refused where).
 -- First come the types of headers, then the specifications of components that are not generic, each a fault of its own. Then the
 -- lines of each instance are looked at, up to the first that is refused: pairs stop there or before.
-use Rattle.std.specs.Prelude.{ℕ, zero, suc, ◌+◌, ◌==◌, ◌&&◌, ℤ, pos, int_le, Bool, true, false, cond, List, [], ◌∷◌, ◌++◌, length, take, Option, Some, None, Result, Ok, Err, slice_get, option_map, option_and_then, unwrap_or}
+use Rattle.std.specs.Prelude.{ℕ, ◌+◌, ◌&&◌, ℤ, int_le, Bool, true, false, cond, List, [], ◌∷◌, ◌++◌, length, map, set, Option, Some, None, Result, Ok, Err, is_some, slice_get, option_map, unwrap_or}
 use Rattle.nm_base.specs.declared.pos.Pos.{Pos}
 use Rattle.nm_base.specs.declared.fault.Fault.{Fault}
 use Rattle.nm_base.specs.declared.fault.Fault.TheVariants as fault
@@ -16,7 +16,7 @@ use Rattle.nesc_tree.specs.Plain.{TypeSpec, MaybeExpr}
 use Rattle.nesc_types.specs.Constant.{pos_of}
 use Rattle.nesc_types.specs.Rule.{Rule, refuse}
 use Rattle.nesc_types.specs.Values.{Constant}
-use Rattle.elab_meaning.specs.Scope.{Env, Meaning, task, constant, type, Unique, UniqueCount}
+use Rattle.elab_meaning.specs.Scope.{Env, Meaning, task, constant, type}
 use Rattle.elab_meaning.specs.Elab.{State, Elab, by, ◌>>=◌, ◌>>◌, give, add_name}
 use Rattle.elab_meaning.specs.Convert.{int_of, integer}
 use Rattle.elab_meaning.specs.Wired.{type_of, whole_constant}
@@ -24,7 +24,6 @@ use Rattle.body_meaning.specs.Tree.{Decl}
 use Rattle.body_meaning.specs.Tree as tree
 use Rattle.body_meaning.specs.Stmts.{declaration}
 use Rattle.wire_instances.specs.declared.plan.Made.{Made}
-use Rattle.wire_instances.specs.declared.plan.Maker.{Maker}
 use Rattle.wire_pairs.specs.declared.facts.Bracket.{Bracket}
 use Rattle.wire_pairs.specs.declared.facts.ElementFacts.{ElementFacts}
 use Rattle.wire_pairs.specs.declared.facts.InstanceFacts.{InstanceFacts}
@@ -35,7 +34,7 @@ use Rattle.wire_pairs.specs.declared.facts.Unlinked.TheVariants as unlinked
 use Rattle.wire_pairs.specs.Application.{made_at}
 use Rattle.wire_pairs.specs.Brackets.{is_before}
 use Rattle.wire_facts.specs.Components.{Param, Arg, Element, Line, Component, of_type, of_value, names_instance, wire, declares}
-use Rattle.wire_facts.specs.Scopes.{Base, base_of, Scope, no_scope, inside}
+use Rattle.wire_facts.specs.Scopes.{Base, base_of, Scope, no_scope, with_own, in_block, inside}
 
 -- ---- names
 
@@ -79,12 +78,17 @@ added types t None = (length types, types ++ t ∷ [])
 abbrev pub numbered : List Ty → Ty → ℕ × List Ty
 numbered types t = added types t (place_of 0 types t)
 
+abbrev pub arg_told : Env → Pos → List Ty → TypeSpec → Elab (ℕ × List Ty)
+arg_told env at types t = do
+  u ← type_of env [] at t
+  give (numbered types u)
+
 -- behind the numbers of earlier ones
 abbrev pub args_told : Env → Pos → List Ty → (before : List ℕ) → List TypeSpec → Elab (List ℕ × List Ty)
 args_told env at types before [] = give (before, types)
 args_told env at types before (t ∷ ts) = do
-  u ← type_of env [] at t
-  args_told env at (numbered types u).1 (before ++ (numbered types u).0 ∷ []) ts
+  one ← arg_told env at types t
+  args_told env at one.1 (before ++ one.0 ∷ []) ts
 
 -- the parameter of a bracket is an unsigned integer of 8 or 16 bits
 abbrev pub greatest_of : Pos → Option IntType → Rule (Option ℕ)
@@ -155,29 +159,36 @@ param_declared env at line p x = do
   m ← by (meaning_given line t x)
   add_name p.name m
 
--- arguments from left to right: each is evaluated in the maker's scope, and then declared in that of the instance
-abbrev pub params_declared : Base → (maker made : Env) → (at line : Pos) → List Param → List Arg → Scope → Elab Scope
-params_declared b maker made at line (p ∷ ps) (x ∷ xs) scope = do
+-- an argument is evaluated in the maker's scope, and then declared in that of the instance
+abbrev pub param_given : Base → (maker made : Env) → (at line : Pos) → Param → Arg → Scope → Elab Scope
+param_given b maker made at line p x scope = do
   g ← given maker line x
   more ← inside b scope (param_declared made at line p g)
-  params_declared b maker made at line ps xs more.1
+  give more.1
+
+-- from left to right
+abbrev pub params_declared : Base → (maker made : Env) → (at line : Pos) → List Param → List Arg → Scope → Elab Scope
+params_declared b maker made at line (p ∷ ps) (x ∷ xs) scope = do
+  more ← param_given b maker made at line p x scope
+  params_declared b maker made at line ps xs more
 params_declared b maker made at line _ _ scope = give scope
 
 -- ---- instances
 
--- what is seen of an instance: its scope, and what is told of its elements
+-- what is seen of an instance: its scope, and what is told of its elements and of its lines
 pub record Seen : Type 0 where
   pub scope : Scope
   pub elements : List ElementFacts
+  pub lines : List LineFacts
 
 abbrev pub unseen : Seen
-unseen = record { scope = no_scope; elements = [] }
+unseen = record { scope = no_scope; elements = []; lines = [] }
 
 -- the specification of an instance, whose parameters are declared
 abbrev pub specified : Base → Env → Component → List Ty → Scope → Elab (Seen × List Ty)
 specified b env c types scope = do
   x ← inside b scope (elements_told env types [] c.elements)
-  give (record { scope = x.1; elements = x.0.0 }, x.0.1)
+  give (record { scope = x.1; elements = x.0.0; lines = [] }, x.0.1)
 
 -- the arguments, and then the specification of the instance that they make
 abbrev pub made_by : Base → (maker made : Env) → (line : Pos) → Component → List Param → List Arg → List Ty → Elab (Seen × List Ty)
@@ -187,17 +198,16 @@ made_by b maker made line c params args types = do
 
 -- ---- applications
 
--- the files, the instances, and what is told of `unique` to each of them
+-- the files and the instances, and what is told of `unique` to headers and to each instance
 pub record Application : Type 0 where
   pub components : List Component
   pub made : List Made
+  pub headers : Env
   pub envs : List Env
 
-abbrev pub no_env : Env
-no_env = record { instance = 0; uniques = []; counts = []; items = []; first_dispatch = 0 }
-
+-- what is told to an instance; others are told what headers are
 abbrev pub env_of : Application → (instance : ℕ) → Env
-env_of app k = unwrap_or (slice_get app.envs k) no_env
+env_of app k = unwrap_or (slice_get app.envs k) app.headers
 
 abbrev pub nowhere : Component
 nowhere = record { decls = []; generic = None; elements = []; lines = []; at = record { file = 0; line = 1; col = 1 } }
@@ -222,49 +232,60 @@ abbrev pub survey : List Seen → List Ty → Survey
 survey seen types = record { seen = seen; types = types }
 
 -- the specification of an instance that is not generic
-abbrev pub single_specified : Base → Env → Component → Option (List Param) → List Ty → Elab (Seen × List Ty)
-single_specified b env c (Some params) types = give (unseen, types)
-single_specified b env c None types = specified b env c types no_scope
+abbrev pub single_specified : Base → Env → Component → (is_generic : Bool) → List Ty → Elab (Seen × List Ty)
+single_specified b env c true types = give (unseen, types)
+single_specified b env c false types = specified b env c types no_scope
+
+abbrev pub with_next : Survey → Seen × List Ty → Survey
+with_next x found = survey (x.seen ++ found.0 ∷ []) found.1
 
 abbrev pub singles_specified : Application → Base → (instance : ℕ) → List Made → Survey → Elab Survey
 singles_specified app b k [] x = give x
 singles_specified app b k (m ∷ ms) x = do
-  one ← single_specified b (env_of app k) (component_of app k) (component_of app k).generic x.types
-  singles_specified app b (k + 1) ms (survey (x.seen ++ one.0 ∷ []) one.1)
+  one ← single_specified b (env_of app k) (component_of app k) (is_some (component_of app k).generic) x.types
+  singles_specified app b (k + 1) ms (with_next x one)
 
--- ---- lines: what is told of one, and what was seen behind it, or, where it is refused, nothing
+-- ---- lines
 
-abbrev pub Behind : Type 0
-Behind = LineFacts × Option (Survey × State)
+-- what the lines behind one go on with: the types that were met, and the state
+abbrev pub Course : Type 0
+Course = List Ty × State
+
+-- what is told of a line, what is seen of the instances behind it, and the course, where it is not refused
+pub record Behind : Type 0 where
+  pub facts : LineFacts
+  pub seen : List Seen
+  pub course : Option Course
 
 abbrev pub untold : LineFacts
 untold = line_facts.Brackets None None
 
-abbrev pub goes_on : LineFacts → Survey → State → Behind
-goes_on facts x s = (facts, Some (x, s))
+abbrev pub behind : LineFacts → List Seen → Option Course → Behind
+behind facts seen course = record { facts = facts; seen = seen; course = course }
 
-abbrev pub refused : Unlinked → Behind
-refused e = (line_facts.Refused e, None)
+abbrev pub goes_on : Survey → State → Behind
+goes_on x s = behind untold x.seen (Some (x.types, s))
+
+abbrev pub refused : List Seen → Unlinked → Behind
+refused seen e = behind (line_facts.Refused e) seen None
 
 abbrev pub with_hidden : List ℕ → State → State
 with_hidden name st = record st { names = st.names ++ (record { name = name; meaning = task 0 } ∷ []) }
 
-abbrev pub named_then : (otherwise : Unlinked) → List ℕ → Rule (Survey × State) → Behind
-named_then otherwise name (Ok x) = goes_on untold x.0 (with_hidden name x.1)
-named_then otherwise name (Err e) = refused (unlinked_as otherwise e)
-
-abbrev pub set_at : ℕ → Seen → List Seen → List Seen
-set_at k x [] = []
-set_at zero x (y ∷ ys) = x ∷ ys
-set_at (suc k) x (y ∷ ys) = y ∷ set_at k x ys
+abbrev pub named_then : (otherwise : Unlinked) → List ℕ → List Seen → Rule (Survey × State) → Behind
+named_then otherwise name seen (Ok x) = goes_on x.0 (with_hidden name x.1)
+named_then otherwise name seen (Err e) = refused seen (unlinked_as otherwise e)
 
 abbrev pub with_seen : ℕ → Survey → Seen × List Ty → Survey
-with_seen k x found = survey (set_at k found.0 x.seen) found.1
+with_seen k x found = survey (set x.seen k found.0) found.1
+
+abbrev pub instance_made : Application → Base → (maker made : ℕ) → (line : Pos) → List Ty → List Arg → Elab (Seen × List Ty)
+instance_made app b i k line types args = made_by b (env_of app i) (env_of app k) line (component_of app k) (unwrap_or (component_of app k).generic []) args types
 
 abbrev pub new_instance : Application → Base → (maker : ℕ) → (line : Pos) → Survey → List Arg → Option ℕ → Elab Survey
 new_instance app b i line x args None = give x
 new_instance app b i line x args (Some k) = do
-  found ← made_by b (env_of app i) (env_of app k) line (component_of app k) (unwrap_or (component_of app k).generic []) args x.types
+  found ← instance_made app b i k line x.types args
   give (with_seen k x found)
 
 abbrev pub bracket : Pos → Result ℤ Unlinked → Option Bracket
@@ -284,29 +305,37 @@ abbrev pub unlooked : MaybeExpr → Option Bracket
 unlooked s.no_expr = None
 unlooked (s.some_expr e) = bracket (pos_of e) (Err (unlinked.NotConstant (pos_of e)))
 
-abbrev pub ends_told : (turned : Bool) → (first second : Option Bracket) → LineFacts
-ends_told false first second = line_facts.Brackets first second
-ends_told true first second = line_facts.Brackets second first
+abbrev pub second_bracketed : Env → MaybeExpr → Option State → Option Bracket × Option State
+second_bracketed env second None = (unlooked second, None)
+second_bracketed env second (Some st) = bracketed env second st
 
-abbrev pub second_told : Env → (turned : Bool) → Survey → (second : MaybeExpr) → Option Bracket × Option State → Behind
-second_told env turned x second (first, None) = (ends_told turned first (unlooked second), None)
-second_told env turned x second (first, Some behind) =
-    (ends_told turned first (bracketed env second behind).0, option_map (λ after. (x, after)) (bracketed env second behind).1)
+-- two brackets in their order, and the state behind both
+abbrev pub Both : Type 0
+Both = (Option Bracket × Option Bracket) × Option State
+
+abbrev pub second_behind : Env → (second : MaybeExpr) → Option Bracket × Option State → Both
+second_behind env second first = ((first.0, (second_bracketed env second first.1).0), (second_bracketed env second first.1).1)
+
+abbrev pub in_order : Env → (first second : MaybeExpr) → State → Both
+in_order env first second st = second_behind env second (bracketed env first st)
+
+abbrev pub turned : Both → Both
+turned x = ((x.0.1, x.0.0), x.1)
 
 abbrev pub begins_before : MaybeExpr → MaybeExpr → Bool
 begins_before (s.some_expr a) (s.some_expr b) = is_before (pos_of a) (pos_of b)
 begins_before a b = false
 
 -- the bracket that begins first in the text is looked at first
-abbrev pub wire_told : Env → (from to : MaybeExpr) → Survey → State → Behind
-wire_told env from to x st =
-    cond (begins_before to from)
-    (second_told env true x from (bracketed env to st))
-    (second_told env false x to (bracketed env from st))
+abbrev pub both_bracketed : Env → (from to : MaybeExpr) → State → Both
+both_bracketed env from to st = cond (begins_before to from) (turned (in_order env to from st)) (in_order env from to st)
+
+abbrev pub wire_told : Survey → Both → Behind
+wire_told x both = behind (line_facts.Brackets both.0.0 both.0.1) x.seen (option_map (λ st. (x.types, st)) both.1)
 
 abbrev pub declared_then : Survey → (otherwise : Unlinked) → Rule (Unit {0} × State) → Behind
-declared_then x otherwise (Ok found) = goes_on untold x found.1
-declared_then x otherwise (Err e) = refused (unlinked_as otherwise e)
+declared_then x otherwise (Ok found) = goes_on x found.1
+declared_then x otherwise (Err e) = refused x.seen (unlinked_as otherwise e)
 
 abbrev pub decl_place : Decl → Pos
 decl_place (tree.typedef name t attrs at) = at
@@ -315,70 +344,70 @@ decl_place (tree.variables t norace vs) = record { file = 0; line = 1; col = 1 }
 decl_place (tree.function h body) = h.at
 
 abbrev pub line_told : Application → Base → (instance line : ℕ) → Line → Survey → State → Behind
-line_told app b i k (names_instance None name at) x st = named_then (unlinked.BadType at) name (Ok (x, st))
+line_told app b i k (names_instance None name at) x st = goes_on x (with_hidden name st)
 line_told app b i k (names_instance (Some args) name at) x st =
-    named_then (unlinked.BadType at) name (new_instance app b i at x args (made_at app.made i k) st)
-line_told app b i k (wire from to at) x st = wire_told (env_of app i) from to x st
+    named_then (unlinked.BadType at) name x.seen (new_instance app b i at x args (made_at app.made i k) st)
+line_told app b i k (wire from to at) x st = wire_told x (both_bracketed (env_of app i) from to st)
 line_told app b i k (declares d) x st = declared_then x (unlinked.BadType (decl_place d)) (done (declaration (env_of app i) [] (decl_place d) d) st)
 
--- the lines of an instance up to the first that is refused; what was seen by then; and the state, where none is
+-- the lines of an instance up to the first that is refused; what is seen by then; and the course, where none is
 pub record Told : Type 0 where
   pub lines : List LineFacts
-  pub seen : Survey
-  pub state : Option State
+  pub seen : List Seen
+  pub course : Option Course
 
-abbrev pub told : List LineFacts → Survey → Option State → Told
-told lines seen st = record { lines = lines; seen = seen; state = st }
+abbrev pub told : List LineFacts → List Seen → Option Course → Told
+told lines seen course = record { lines = lines; seen = seen; course = course }
 
-abbrev pub lines_behind : List LineFacts → Survey → Behind → (Survey → State → List LineFacts → Told) → Told
-lines_behind before x (f, None) next = told (before ++ f ∷ []) x None
-lines_behind before x (f, Some behind) next = next behind.0 behind.1 (before ++ f ∷ [])
+abbrev pub lines_behind : List LineFacts → List Seen → Option Course → (Survey → State → List LineFacts → Told) → Told
+lines_behind lines seen None next = told lines seen None
+lines_behind lines seen (Some c) next = next (survey seen c.0) c.1 lines
+
+abbrev pub line_then : List LineFacts → Behind → (Survey → State → List LineFacts → Told) → Told
+line_then before f next = lines_behind (before ++ f.facts ∷ []) f.seen f.course next
 
 abbrev pub lines_told : Application → Base → (instance line : ℕ) → List Line → Survey → State → List LineFacts → Told
-lines_told app b i k [] x st before = told before x (Some st)
-lines_told app b i k (l ∷ ls) x st before =
-    lines_behind before x (line_told app b i k l x st) (λ more after lines. lines_told app b i (k + 1) ls more after lines)
+lines_told app b i k [] x st before = told before x.seen (Some (x.types, st))
+lines_told app b i k (l ∷ ls) x st before = line_then before (line_told app b i k l x st) (lines_told app b i (k + 1) ls)
+
+-- ---- instances
+
+abbrev pub seen_at : List Seen → (instance : ℕ) → Seen
+seen_at seen i = unwrap_or (slice_get seen i) unseen
+
+-- a scope is in force once
+abbrev pub without_scope : List Seen → (instance : ℕ) → List Seen
+without_scope seen i = set seen i (record (seen_at seen i) { scope = no_scope })
 
 -- inside the instance's own scope, the implementation is one block
-abbrev pub opened : Base → Scope → State → State
-opened b scope st = record st {
-  names = take b.names st.names ++ scope.names;
-  tags = take b.tags st.tags ++ scope.tags;
-  first_name = b.names + length scope.names;
-  first_tag = b.tags + length scope.tags;
-}
+abbrev pub instance_told : Application → Base → (instance : ℕ) → List Seen → Option Course → Told
+instance_told app b i seen None = told [] seen None
+instance_told app b i seen (Some c) =
+    lines_told app b i 0 (component_of app i).lines (survey (without_scope seen i) c.0) (with_own b (in_block b (seen_at seen i).scope) c.1) []
 
-abbrev pub scope_of : Survey → ℕ → Scope
-scope_of x i = (unwrap_or (slice_get x.seen i) unseen).scope
+abbrev pub with_lines : (instance : ℕ) → List LineFacts → List Seen → List Seen
+with_lines i lines seen = set seen i (record (seen_at seen i) { lines = lines })
 
 -- the instances from one on
-abbrev pub instances_told : Application → Base → (instance : ℕ) → List Made → Survey → Option State → List (List LineFacts) → Survey × List (List LineFacts)
-instances_told app b i [] x st before = (x, before)
-instances_told app b i (m ∷ ms) x None before = instances_told app b (i + 1) ms x None (before ++ [] ∷ [])
-instances_told app b i (m ∷ ms) x (Some st) before =
-    (λ (t : Told). instances_told app b (i + 1) ms t.seen t.state (before ++ t.lines ∷ []))
-    (lines_told app b i 0 (component_of app i).lines x (opened b (scope_of x i) st) [])
+abbrev pub instances_told : Application → Base → (instance : ℕ) → List Made → List Seen → Option Course → List Seen
+instances_told app b i [] seen course = seen
+instances_told app b i (m ∷ ms) seen course = (λ (t : Told). instances_told app b (i + 1) ms (with_lines i t.lines t.seen) t.course) (instance_told app b i seen course)
 
-abbrev pub facts_from : List Seen → List (List LineFacts) → List InstanceFacts
-facts_from (x ∷ xs) (l ∷ ls) = record { elements = x.elements; lines = l } ∷ facts_from xs ls
-facts_from _ _ = []
-
-abbrev pub all_facts : Survey × List (List LineFacts) → List InstanceFacts
-all_facts p = facts_from p.0.seen p.1
+abbrev pub facts_in : Seen → InstanceFacts
+facts_in x = record { elements = x.elements; lines = x.lines }
 
 -- ---- all of it
 
 abbrev pub start : State
 start = record { names = []; tags = []; first_name = 0; first_tag = 0; structs = []; locals = []; taken = []; asked = [] }
 
-abbrev pub with_lines : Application → Base → Rule (Survey × State) → Rule (List InstanceFacts)
-with_lines app b (Ok x) = Ok (all_facts (instances_told app b 0 app.made x.0 (Some x.1) []))
-with_lines app b (Err e) = Err e
+abbrev pub all_told : Application → Base → Rule (Survey × State) → Rule (List InstanceFacts)
+all_told app b (Ok x) = Ok (map facts_in (instances_told app b 0 app.made x.0.seen (Some (x.0.types, x.1))))
+all_told app b (Err e) = Err e
 
 abbrev pub with_specifications : Application → Rule (Unit {0} × State) → Rule (List InstanceFacts)
-with_specifications app (Ok x) = with_lines app (base_of x.1) (singles_specified app (base_of x.1) 0 app.made (survey [] []) x.1)
+with_specifications app (Ok x) = all_told app (base_of x.1) (singles_specified app (base_of x.1) 0 app.made (survey [] []) x.1)
 with_specifications app (Err e) = Err e
 
--- `headers` is told to the headers
-abbrev pub facts_of : (headers : Env) → Application → Rule (List InstanceFacts)
-facts_of headers app = with_specifications app (headers_declared headers app.components start)
+abbrev pub facts_of : Application → Rule (List InstanceFacts)
+facts_of app = with_specifications app (headers_declared app.headers app.components start)
