@@ -1,7 +1,5 @@
 //! One call of the top call over files and a sink in memory, on a board of five devices.
 
-ghost use Rattle.std.specs.Prelude.{◌≤◌, IfOk, vec_len};
-
 use crate::cases::Case;
 use crate::left_out::LeftOut;
 use crate::texts::FILES;
@@ -34,15 +32,21 @@ fn words(alloc: Global, all: &[&str]) -> Result<Vec<String>, NoMemory> {
     Ok(words)
 }
 
-fn board(alloc: Global) -> Result<Vec<Box<dyn Device>>, NoMemory>
-    ensures { IfOk result (λ devices. vec_len devices ≤ 8) }
-{
+// The status of one call over these files.
+fn called(
+    alloc: Global,
+    all: &[&str],
+    files: &mut MemFiles,
+    out: &mut MemSink,
+) -> Result<u8, NoMemory> {
+    let words = words(alloc, all)?;
     let leds: Box<dyn Device> = Box::new(alloc, Leds::new())?;
     let timer: Box<dyn Device> = Box::new(alloc, Timer::new())?;
     let serial: Box<dyn Device> = Box::new(alloc, Serial::new())?;
     let radio: Box<dyn Device> = Box::new(alloc, Radio::new())?;
     let sensor: Box<dyn Device> = Box::new(alloc, Sensor::new())?;
-    Ok(vec![in alloc; leds, timer, serial, radio, sensor]?)
+    let board = vec![in alloc; leds, timer, serial, radio, sensor]?;
+    Ok(tool(alloc, &words, files, out, board).code())
 }
 
 /// The status of one call.
@@ -52,9 +56,8 @@ pub fn answer(
     fail_reads: Vec<u32>,
     out: &mut MemSink,
 ) -> Result<u8, NoMemory> {
-    let words = words(alloc, all)?;
     let mut files = files(alloc, fail_reads)?;
-    Ok(tool(alloc, &words, &mut files, out, board(alloc)?).code())
+    called(alloc, all, &mut files, out)
 }
 
 /// Whether an application of one file is refused, at this place and with this word.
@@ -66,8 +69,7 @@ pub fn is_left_out(alloc: Global, row: &LeftOut) -> Result<bool, NoMemory> {
         Vec::new(alloc),
     );
     let mut out = MemSink::new(alloc, 20_000, Vec::new(alloc))?;
-    let words = words(alloc, &["check", app])?;
-    let status = tool(alloc, &words, &mut files, &mut out, board(alloc)?).code();
+    let status = called(alloc, &["check", app], &mut files, &mut out)?;
     let wanted = format!(in alloc; "refused E08 {name}:{place}\n")?;
     Ok(status == 1 && out.bytes() == wanted.as_bytes())
 }
