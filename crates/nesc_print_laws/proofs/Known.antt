@@ -333,7 +333,7 @@ module _ {spare : ℕ} {ns : Names} (ih : (k : Phrase) (u v : Place) (a : Of k) 
   y_sub {k = k} {P = P} h = record { gives = λ u v b e t. subst (λ x. P x v) (sym t.2) (h t.0 v (subst (λ n. Law n k t.0 v) e (ih k u v t.0 t.1))) }
 
   -- an expression as it is
-  y_whole : {m : ℕ} → Yields spare ns (gr.expr m) (Quiet ns (λ a. Fine ns a.expr))
+  pub y_whole : {m : ℕ} → Yields spare ns (gr.expr m) (Quiet ns (λ a. Fine ns a.expr))
   unfolding Law
   y_whole {m = m} = y_sub {k = Phrase.expr m} (λ a ms l. l)
 
@@ -393,17 +393,17 @@ module _ {spare : ℕ} {ns : Names} (ih : (k : Phrase) (u v : Place) (a : Of k) 
   y_base_of s.Enum = y_seq y_one (y_by y_enum_of) (λ o f u h. h o)
   y_base_of _ = y_none
 
-  y_type_form : Yields spare ns gr.type_form (Quiet ns (FineType ns))
+  pub y_type_form : Yields spare ns gr.type_form (Quiet ns (FineType ns))
   y_type_form = y_seq {Q = λ f. (u : Qualifiers) → FineType ns (f u)} y_qualifiers (y_seq (y_by y_base_of) y_qualifiers (λ t v h w u. type_of_fine ns u t v h)) (λ u f h k. k u)
 
-  y_stars : Yields spare ns gr.stars (Quiet ns (λ n. Unit {0}))
+  pub y_stars : Yields spare ns gr.stars (Quiet ns (λ n. Unit {0}))
   unfolding Law
   y_stars = y_maybe (y_sub {k = Phrase.pointers} (λ n ms l. l)) tt
 
   y_cast_type : Yields spare ns gr.cast_type (Quiet ns (FineCast ns))
   y_cast_type = y_seq y_type_form y_stars (λ t n h u. pointer_fine ns t n h)
 
-  y_dims : Yields spare ns gr.dims (Quiet ns (λ l. FineAll ns l.exprs))
+  pub y_dims : Yields spare ns gr.dims (Quiet ns (λ l. FineAll ns l.exprs))
   y_dims = y_many tt (λ x. y_map (y_seq {R = λ a. Fine ns a.expr} y_one (y_seq {R = λ a. Fine ns a.expr} y_whole y_one (λ a t h u. h)) (λ t a u h. h)) (λ a h l g. fine_pushed ns l.exprs a.expr g h))
 
   y_declarator : Yields spare ns gr.declarator (Quiet ns (λ d. FineDeclarator ns d.declarator))

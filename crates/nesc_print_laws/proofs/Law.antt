@@ -22,10 +22,10 @@ use Rattle.nesc_print_laws.proofs.Views as view
 use Rattle.nesc_print_laws.proofs.Exprs.{two}
 use Rattle.nesc_print_laws.proofs.Known.{Law, law, FineType}
 
-read : {ws : Words} (ts rest : List Token) → map lexeme_of ts ≡ ws → Read ws (ts ++ rest) rest
+pub read : {ws : Words} (ts rest : List Token) → map lexeme_of ts ≡ ws → Read ws (ts ++ rest) rest
 read ts rest e = subst (λ ws. Read ws (ts ++ rest) rest) e (read_of ts rest)
 
-again : {k : Phrase} {ns : Names} {ts rest : List Token} {P Q : Of k → Type 0} → ((a : Of k) → P a → Q a) → Has (production k) (at ns (ts ++ rest)) (at ns rest) P → ReadAgain k ns ts rest Q
+pub again : {k : Phrase} {ns : Names} {ts rest : List Token} {P Q : Of k → Type 0} → ((a : Of k) → P a → Q a) → Has (production k) (at ns (ts ++ rest)) (at ns rest) P → ReadAgain k ns ts rest Q
 unfolding SpellsIn
 again k h = record { levels = suc h.least; tree = h.value; spelled = h.spells h.least (omega arith); same = k h.value h.ok }
 

@@ -14,3 +14,11 @@ mod Fields
 mod Yields
 mod Known
 mod Law
+mod Changed
+mod StmtViews
+mod Inits
+mod Variables
+mod Stmts
+mod Blocks
+mod StmtsKnown
+mod StmtLaw

@@ -1,2 +1,4 @@
 pub mod Placeless
 pub mod ReadAgain
+pub mod Shapes
+pub mod StatementsAgain

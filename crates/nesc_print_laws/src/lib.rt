@@ -3,4 +3,4 @@
 
 mod laws;
 
-pub use laws::{expressions_are_read_again, types_are_read_again};
+pub use laws::{expressions_are_read_again, statements_are_read_again, types_are_read_again};
