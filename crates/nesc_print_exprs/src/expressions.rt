@@ -16,7 +16,7 @@ use crate::operators::{
 };
 use crate::words::Words;
 use nesc_tree::level::{ASSIGNMENT, CAST, COMMA, CONDITIONAL, LOGICAL_OR, POSTFIX, UNARY};
-use nesc_tree::{Base, Declarator, EnumItem, Expr, FieldGroup, InOp, TypeSpec};
+use nesc_tree::{Base, Declarator, EnumItem, Expr, FieldGroup, InOp, PostOp, PreOp, TypeSpec};
 use nm_base::{Boxed, IntType, List, Name, NoMemory};
 use printed_words::Gap;
 
@@ -127,6 +127,7 @@ pub fn put_expr(
     words.sign(Gap::Joined, b")")
 }
 
+// The expression without parentheses of its own.
 #[cycle(tree)]
 fn put_bare(words: &mut Words, gap: Gap, e: &Expr, levels: u32) -> Result<(), NoMemory>
     ensures { OnOk result (words.new ≡ words.old ++ spec.expr_words (expr_of e.now)) }
@@ -138,43 +139,19 @@ fn put_bare(words: &mut Words, gap: Gap, e: &Expr, levels: u32) -> Result<(), No
         Expr::Null(_) => words.word(gap, b"NULL"),
         Expr::Unique(text, _) => put_unique(words, gap, b"unique", text),
         Expr::UniqueCount(text, _) => put_unique(words, gap, b"uniqueCount", text),
-        Expr::Unary(op, a, _) => {
-            words.sign(gap, prefix_text(*op))?;
-            put_expr(words, Gap::Joined, prefix_needs(*op), a.get(), levels)
-        }
-        Expr::Postfix(op, a, _) => {
-            put_expr(words, gap, POSTFIX, a.get(), levels)?;
-            words.sign(Gap::Joined, suffix_text(*op))
-        }
+        Expr::Unary(op, a, _) => put_prefixed(words, gap, *op, a.get(), levels),
+        Expr::Postfix(op, a, _) => put_suffixed(words, gap, *op, a.get(), levels),
         Expr::Binary(op, a, b, _) => put_binary(words, gap, *op, a.get(), b.get(), levels),
         Expr::Assign(op, a, b, _) => put_assignment(words, gap, *op, a.get(), b.get(), levels),
         Expr::Cond(a, b, c, _) => put_choice(words, gap, a.get(), b.get(), c.get(), levels),
-        Expr::Comma(a, b, _) => {
-            put_expr(words, gap, COMMA, a.get(), levels)?;
-            put_after_comma(words, b.get(), levels)
-        }
-        Expr::Cast(t, a, _) => {
-            put_in_parentheses(words, gap, t, levels)?;
-            put_expr(words, Gap::Spaced, CAST, a.get(), levels)
-        }
-        Expr::SizeOfExpr(a, _) => {
-            words.word(gap, b"sizeof")?;
-            put_expr(words, Gap::Spaced, UNARY, a.get(), levels)
-        }
-        Expr::SizeOfType(t, _) => {
-            words.word(gap, b"sizeof")?;
-            put_in_parentheses(words, Gap::Joined, t, levels)
-        }
-        Expr::Index(a, i, _) => {
-            put_expr(words, gap, POSTFIX, a.get(), levels)?;
-            put_bracket(words, COMMA, i.get(), levels)
-        }
+        Expr::Comma(a, b, _) => put_pair(words, gap, a.get(), b.get(), levels),
+        Expr::Cast(t, a, _) => put_cast(words, gap, t, a.get(), levels),
+        Expr::SizeOfExpr(a, _) => put_size_of(words, gap, a.get(), levels),
+        Expr::SizeOfType(t, _) => put_type_size(words, gap, t, levels),
+        Expr::Index(a, i, _) => put_index(words, gap, a.get(), i.get(), levels),
         Expr::Member(a, name, _) => put_member(words, gap, b".", a.get(), name, levels),
         Expr::Arrow(a, name, _) => put_member(words, gap, b"->", a.get(), name, levels),
-        Expr::CallFn(f, args, _) => {
-            put_expr(words, gap, POSTFIX, f.get(), levels)?;
-            put_arguments(words, args, levels)
-        }
+        Expr::CallFn(f, args, _) => put_call(words, gap, f.get(), args, levels),
         Expr::CallItem {
             signal,
             element,
@@ -184,15 +161,40 @@ fn put_bare(words: &mut Words, gap: Gap, e: &Expr, levels: u32) -> Result<(), No
             ..
         } => {
             put_item_name(words, gap, *signal, element, item)?;
-            put_parameter(words, param, levels)?;
-            put_arguments(words, args, levels)
+            put_item_arguments(words, param, args, levels)
         }
-        Expr::PortRead(port, _) => put_port_read(words, gap, port.get(), levels),
-        Expr::PortWrite(port, value, _) => {
-            put_port_write(words, gap, port.get(), value.get(), levels)
-        }
+        Expr::PortRead(a, _) => put_port_read(words, gap, a.get(), levels),
+        Expr::PortWrite(a, b, _) => put_port_write(words, gap, a.get(), b.get(), levels),
         Expr::Post(task, _) => put_post(words, gap, task),
     }
+}
+
+#[cycle(tree)]
+fn put_prefixed(
+    words: &mut Words,
+    gap: Gap,
+    op: PreOp,
+    e: &Expr,
+    levels: u32,
+) -> Result<(), NoMemory>
+    ensures { OnOk result (words.new ≡ words.old ++ sign (operators.prefix_text op) ∷ words_at (operators.prefix_needs op) (expr_of e.now)) }
+{
+    words.sign(gap, prefix_text(op))?;
+    put_expr(words, Gap::Joined, prefix_needs(op), e, levels)
+}
+
+#[cycle(tree)]
+fn put_suffixed(
+    words: &mut Words,
+    gap: Gap,
+    op: PostOp,
+    e: &Expr,
+    levels: u32,
+) -> Result<(), NoMemory>
+    ensures { OnOk result (words.new ≡ words.old ++ (words_at level.postfix (expr_of e.now) ++ sign (operators.suffix_text op) ∷ [])) }
+{
+    put_expr(words, gap, POSTFIX, e, levels)?;
+    words.sign(Gap::Joined, suffix_text(op))
 }
 
 #[cycle(tree)]
@@ -244,6 +246,86 @@ fn put_choice(
     put_expr(words, Gap::Spaced, COMMA, first, levels)?;
     words.sign(Gap::Spaced, b":")?;
     put_expr(words, Gap::Spaced, CONDITIONAL, second, levels)
+}
+
+#[cycle(tree)]
+fn put_pair(
+    words: &mut Words,
+    gap: Gap,
+    first: &Expr,
+    second: &Expr,
+    levels: u32,
+) -> Result<(), NoMemory>
+    ensures { OnOk result (words.new ≡ words.old ++ (words_at level.comma (expr_of first.now) ++ comma ∷ words_at level.assignment (expr_of second.now))) }
+{
+    put_expr(words, gap, COMMA, first, levels)?;
+    put_after_comma(words, second, levels)
+}
+
+#[cycle(tree)]
+fn put_cast(
+    words: &mut Words,
+    gap: Gap,
+    t: &TypeSpec,
+    e: &Expr,
+    levels: u32,
+) -> Result<(), NoMemory>
+    ensures { OnOk result (words.new ≡ words.old ++ (in_parentheses (spec.type_words (spec_of t.now)) ++ words_at level.cast (expr_of e.now))) }
+{
+    put_in_parentheses(words, gap, t, levels)?;
+    put_expr(words, Gap::Spaced, CAST, e, levels)
+}
+
+#[cycle(tree)]
+fn put_size_of(words: &mut Words, gap: Gap, e: &Expr, levels: u32) -> Result<(), NoMemory>
+    ensures { OnOk result (words.new ≡ words.old ++ word (codes "sizeof") ∷ words_at level.unary (expr_of e.now)) }
+{
+    words.word(gap, b"sizeof")?;
+    put_expr(words, Gap::Spaced, UNARY, e, levels)
+}
+
+#[cycle(tree)]
+fn put_type_size(words: &mut Words, gap: Gap, t: &TypeSpec, levels: u32) -> Result<(), NoMemory>
+    ensures { OnOk result (words.new ≡ words.old ++ word (codes "sizeof") ∷ in_parentheses (spec.type_words (spec_of t.now))) }
+{
+    words.word(gap, b"sizeof")?;
+    put_in_parentheses(words, Gap::Joined, t, levels)
+}
+
+#[cycle(tree)]
+fn put_index(words: &mut Words, gap: Gap, e: &Expr, at: &Expr, levels: u32) -> Result<(), NoMemory>
+    ensures { OnOk result (words.new ≡ words.old ++ (words_at level.postfix (expr_of e.now) ++ in_brackets (words_at level.comma (expr_of at.now)))) }
+{
+    put_expr(words, gap, POSTFIX, e, levels)?;
+    put_bracket(words, COMMA, at, levels)
+}
+
+#[cycle(tree)]
+fn put_call(
+    words: &mut Words,
+    gap: Gap,
+    f: &Expr,
+    args: &List<Expr>,
+    levels: u32,
+) -> Result<(), NoMemory>
+    ensures { OnOk result (words.new ≡ words.old ++ (words_at level.postfix (expr_of f.now) ++ in_parentheses (spec.argument_words (exprs_of args.now)))) }
+{
+    put_expr(words, gap, POSTFIX, f, levels)?;
+    put_arguments(words, args, levels)
+}
+
+// What stands behind the name of an item that is called.
+#[cycle(tree)]
+fn put_item_arguments(
+    words: &mut Words,
+    param: &Option<Boxed<Expr>>,
+    args: &List<Expr>,
+    levels: u32,
+) -> Result<(), NoMemory>
+    ensures { OnOk result (words.new ≡ words.old ++ (spec.parameter_words (maybe_of param.now) ++ in_parentheses (spec.argument_words (exprs_of args.now)))) }
+{
+    put_parameter(words, param, levels)?;
+    put_arguments(words, args, levels)
 }
 
 #[cycle(tree)]

@@ -89,6 +89,33 @@ decreases-put_port_read l = 12 * l.levels + 10
 abbrev pub decreases-put_port_write : goal.decreases-put_port_write
 decreases-put_port_write l = 12 * l.levels + 10
 
+abbrev pub decreases-put_prefixed : goal.decreases-put_prefixed
+decreases-put_prefixed l = 12 * l.levels + 10
+
+abbrev pub decreases-put_suffixed : goal.decreases-put_suffixed
+decreases-put_suffixed l = 12 * l.levels + 10
+
+abbrev pub decreases-put_pair : goal.decreases-put_pair
+decreases-put_pair l = 12 * l.levels + 10
+
+abbrev pub decreases-put_cast : goal.decreases-put_cast
+decreases-put_cast l = 12 * l.levels + 10
+
+abbrev pub decreases-put_size_of : goal.decreases-put_size_of
+decreases-put_size_of l = 12 * l.levels + 10
+
+abbrev pub decreases-put_type_size : goal.decreases-put_type_size
+decreases-put_type_size l = 12 * l.levels + 10
+
+abbrev pub decreases-put_index : goal.decreases-put_index
+decreases-put_index l = 12 * l.levels + 10
+
+abbrev pub decreases-put_call : goal.decreases-put_call
+decreases-put_call l = 12 * l.levels + 10
+
+abbrev pub decreases-put_item_arguments : goal.decreases-put_item_arguments
+decreases-put_item_arguments l = 12 * l.levels + 10
+
 abbrev pub decreases-put_bare : goal.decreases-put_bare
 decreases-put_bare l = 12 * l.levels + 11
 
