@@ -1,4 +1,4 @@
-//! Reads files of nesC, each behind a line `= c NAME`, `= i NAME` or `= h NAME` for a component, an interface or a header, and writes each as it is printed, with a line that says whether the printed text reads back as the same tree.
+//! Reads files of nesC, each behind a line `= c NAME`, `= i NAME` or `= h NAME`, and writes how each is printed, and whether that reads back as the same tree.
 #![tactic(auto)]
 
 mod answer;
@@ -12,7 +12,7 @@ use std::alloc::Global;
 use std::io::{self, BufRead, BufReader, Write};
 use text::put;
 
-/// What a line begins with that names a file.
+/// What a line begins with that names a file: `c` is a component, `i` an interface, `h` a header.
 const MARK: &[u8] = b"= ";
 
 // Writes a file as it is printed.
