@@ -1,24 +1,24 @@
-mod Texts
-mod Signs
-mod Follows
-mod Runs
-mod Lists
-mod Views
-mod Names
-mod Exprs
-mod More
-mod Calls
-mod Sizes
-mod Types
-mod Fields
-mod Yields
-mod Known
-mod Law
-mod Changed
-mod StmtViews
-mod Inits
-mod Variables
-mod Stmts
-mod Blocks
-mod StmtsKnown
-mod StmtLaw
+pub mod Texts
+pub mod Signs
+pub mod Follows
+pub mod Runs
+pub mod Lists
+pub mod Views
+pub mod Names
+pub mod Exprs
+pub mod More
+pub mod Calls
+pub mod Sizes
+pub mod Types
+pub mod Fields
+pub mod Yields
+pub mod Known
+pub mod Law
+pub mod Changed
+pub mod StmtViews
+pub mod Inits
+pub mod Variables
+pub mod Stmts
+pub mod Blocks
+pub mod StmtsKnown
+pub mod StmtLaw

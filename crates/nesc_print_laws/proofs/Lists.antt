@@ -99,7 +99,7 @@ Behind F go y = F y × (go y ≡ false)
 
 module _ {X B : Type 0} (body : Sort → Form (B → B)) (words : X → Words) (F : Sort → Type 0) (P : X → (B → B) → Type 0) (go : Sort → Bool)
     (R : List X → B → Type 0) (on : (y : Sort) → go y ≡ true → F y) (next_one : (xs : List X) (x : X) (f : B → B) (b : B) → R xs b → P x f → R (xs ++ (x ∷ [])) (f b)) where
-  follows_row : (xs : List X) {ms ls : Names} → Row body words F P go xs ms ls → (ts us : List Token) → Read (joined (map words xs)) ts us → Behind F go (ahead ls us) → F (ahead ms ts)
+  pub follows_row : (xs : List X) {ms ls : Names} → Row body words F P go xs ms ls → (ts us : List Token) → Read (joined (map words xs)) ts us → Behind F go (ahead ls us) → F (ahead ms ts)
   follows_row [] Row.none ts us Read.ends l = l.0
   follows_row (x ∷ xs) {ms = ms} (Row.more u j e) ts us r l =
       let z = cut (words x) (joined (map words xs)) r in

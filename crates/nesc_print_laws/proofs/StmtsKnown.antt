@@ -73,19 +73,19 @@ module _ (ns : Names) where
 
 module _ {spare : ℕ} {ns : Names} where
   -- of the value nothing is said
-  y_any : {A : Type 0} {g : Form A} → Yields spare ns g (λ a q. Unit {0})
+  pub y_any : {A : Type 0} {g : Form A} → Yields spare ns g (λ a q. Unit {0})
   y_any = record { gives = λ p q a e t. tt }
 
   -- behind what keeps the names
-  y_after : {A B C : Type 0} {f : A → B → C} {g : Form A} {h : Form B} {P : A → Type 0} {Q : B → Place → Type 0} {R : C → Place → Type 0}
+  pub y_after : {A B C : Type 0} {f : A → B → C} {g : Form A} {h : Form B} {P : A → Type 0} {Q : B → Place → Type 0} {R : C → Place → Type 0}
       → Yields spare ns g (Quiet ns P) → Yields spare ns h Q → ((a : A) (b : B) (q : Place) → P a → Q b q → R (f a b) q) → Yields spare ns (Form.seq f g h) R
   y_after {h = h} {Q = Q} u v k = y_then {Q = λ a q. Q} u (λ a q w. subst (λ n. Yields spare n h Q) (sym w.0) v) (λ a q b r w z. k a b r w.1 z)
 
-  y_behind : {B : Type 0} {x : Sort} {h : Form B} {Q : B → Place → Type 0} → Yields spare ns h Q → Yields spare ns (gr.behind (gr.one x) h) Q
+  pub y_behind : {B : Type 0} {x : Sort} {h : Form B} {Q : B → Place → Type 0} → Yields spare ns h Q → Yields spare ns (gr.behind (gr.one x) h) Q
   y_behind v = y_after y_one v (λ t b q u w. w)
 
   -- a sign behind it keeps the names
-  y_before : {A : Type 0} {x : Sort} {g : Form A} (P : A → Names → Type 0) → Yields spare ns g (λ a q. P a q.names) → Yields spare ns (gr.before g (gr.one x)) (λ a q. P a q.names)
+  pub y_before : {A : Type 0} {x : Sort} {g : Form A} (P : A → Names → Type 0) → Yields spare ns g (λ a q. P a q.names) → Yields spare ns (gr.before g (gr.one x)) (λ a q. P a q.names)
   y_before P u = y_then {Q = λ a q t r. (r.names ≡ q.names) × Unit {0}} u (λ a q w. y_one) (λ a q t r w z. subst (P a) (sym z.0) w)
 
 pick : {A : Type 0} (P : A → Place → Type 0) {X : Type 0} (b c : A) (p q : Place) (x : Bool) → (X → P c q) → (q ≡ p → P b q) → chosen x X ((c ≡ b) × (q ≡ p)) → P c q
@@ -93,14 +93,14 @@ pick P b c p q true k h t = k t
 pick P b c p q false k h t = subst (λ z. P z q) (sym t.0) (h t.1)
 
 module _ {spare : ℕ} {ns : Names} where
-  y_maybe_to : {A : Type 0} {g : Form A} {b : A} {P : A → Place → Type 0} → Yields spare ns g P → ((q : Place) → q.names ≡ ns → P b q) → Yields spare ns (Form.maybe g b) P
+  pub y_maybe_to : {A : Type 0} {g : Form A} {b : A} {P : A → Place → Type 0} → Yields spare ns g P → ((q : Place) → q.names ≡ ns → P b q) → Yields spare ns (Form.maybe g b) P
   unfolding Spells
   y_maybe_to {g = g} {b = b} {P = P} u h = record { gives = λ p q a e t. pick P b a p q (starts g (next p)) (λ w. u.gives p q a e w) (λ z. h q (ap (λ (w : Place). w.names) z ∙ e)) t }
 
-  y_weaker : {A : Type 0} {g : Form A} {P R : A → Place → Type 0} → Yields spare ns g P → ((a : A) (q : Place) → P a q → R a q) → Yields spare ns g R
+  pub y_weaker : {A : Type 0} {g : Form A} {P R : A → Place → Type 0} → Yields spare ns g P → ((a : A) (q : Place) → P a q → R a q) → Yields spare ns g R
   y_weaker u k = record { gives = λ p q a e t. k a q (u.gives p q a e t) }
 
-  y_where : {A : Type 0} {g : Form A} {P : A → Place → Type 0} (b : Bool) → (b ≡ true → Yields spare ns g P) → Yields spare ns (gr.when b g) P
+  pub y_where : {A : Type 0} {g : Form A} {P : A → Place → Type 0} (b : Bool) → (b ≡ true → Yields spare ns g P) → Yields spare ns (gr.when b g) P
   y_where true u = u refl
   y_where false u = y_none
 
@@ -158,7 +158,7 @@ Inited ns l = All (Initial ns) l.list × (x : Init) × (xs : List Init) × (l.li
 first_inited : (ns : Names) (v : Init) → Initial ns v → All (Initial ns) (v ∷ []) × (x : Init) × (xs : List Init) × ((v ∷ []) ≡ x ∷ xs)
 first_inited ns v h = ((h, tt), v, [], refl)
 
-abbrev SomeInited : Names → Option Init → Type 0
+abbrev pub SomeInited : Names → Option Init → Type 0
 SomeInited ns None = Unit {0}
 SomeInited ns (Some v) = Initial ns v
 
@@ -169,35 +169,35 @@ more_inited ns (Some v) l h g = (all_pushed (Initial ns) l.list v g.0 h, g.1, g.
 braced : (ns : Names) (l : Inits) → Inited ns l → Braced ns (init.Many l.list)
 braced ns l h = record { prints = subst (λ xs. Prints ns ns (production Phrase.braces) (init_words (init.Many xs)) Any (SameInit (init.Many xs))) (sym h.3) (has_braces h.1 h.2 (subst (All (Initial ns)) h.3 h.0)); leads = braces_lead l.list }
 
-maybe_initial : (ns : Names) (o : Option Init) → SomeInited ns o → MaybeInitial ns o
+pub maybe_initial : (ns : Names) (o : Option Init) → SomeInited ns o → MaybeInitial ns o
 maybe_initial ns None h = no_initial ns
 maybe_initial ns (Some v) h = an_initial ns v h
 
-is_cons : {A : Type 0} → List A → Bool
+pub is_cons : {A : Type 0} → List A → Bool
 is_cons [] = false
 is_cons (x ∷ xs) = true
 
-pushed_cons : {A : Type 0} (xs : List A) (x : A) → is_cons (xs ++ (x ∷ [])) ≡ true
+pub pushed_cons : {A : Type 0} (xs : List A) (x : A) → is_cons (xs ++ (x ∷ [])) ≡ true
 unfolding is_cons
 pushed_cons [] x = refl
 pushed_cons (y ∷ xs) x = refl
 
-one_cons : {A : Type 0} (x : A) → is_cons (x ∷ []) ≡ true
+pub one_cons : {A : Type 0} (x : A) → is_cons (x ∷ []) ≡ true
 unfolding is_cons
 one_cons x = refl
 
-no_cons : (A : Type 0) {X : Type 0} → is_cons {A = A} [] ≡ true → X
+pub no_cons : (A : Type 0) {X : Type 0} → is_cons {A = A} [] ≡ true → X
 unfolding is_cons
 no_cons A h = absurd cc
 
-abbrev DeclaredVariable : Names → Variable → Place → Type 0
+abbrev pub DeclaredVariable : Names → Variable → Place → Type 0
 DeclaredVariable ns v q = (q.names ≡ inner.hidden v.declarator.name ns) × Declared ns v
 
 -- variables from the first names on, one at least
-abbrev Several : Names → List Variable → Names → Type 0
+abbrev pub Several : Names → List Variable → Names → Type 0
 Several ns vs ms = AllDeclared vs ns ms × (is_cons vs ≡ true)
 
-plain_of : (ns : Names) (t : CastType) → FineType ns t → Plain ns t.ty
+pub plain_of : (ns : Names) (t : CastType) → FineType ns t → Plain ns t.ty
 plain_of ns t h = record { basic = h.basic; stars = h.stars; dims = h.dims }
 
 group_local : (ns ms : Names) (t : CastType) (vs : List Variable) → Plain ns t.ty → AllDeclared vs ns ms → Local ns ms (gs.local_group t vs)
@@ -234,7 +234,7 @@ module _ (spare : ℕ) (ih : (k : Phrase) (u v : Place) (a : Of k) → SpellsIn 
   y_sub {k = k} {P = P} h = record { gives = λ u v b e t. subst (λ x. P x v) (sym t.2) (h t.0 v (subst (λ n. StmtLaw n k t.0 v) e (ih k u v t.0 t.1))) }
 
   module _ {ns : Names} where
-    y_expr : {m : ℕ} → Yields spare ns (gr.expr m) (Quiet ns (λ a. Fine ns a.expr))
+    pub y_expr : {m : ℕ} → Yields spare ns (gr.expr m) (Quiet ns (λ a. Fine ns a.expr))
     y_expr = y_whole (law spare)
 
     y_init_of : (x : Sort) → Yields spare ns (inner.init_of x) (Quiet ns (Initial ns))
@@ -242,10 +242,10 @@ module _ (spare : ℕ) (ih : (k : Phrase) (u v : Place) (a : Of k) → SpellsIn 
     y_init_of s.LBrace = y_sub {k = Phrase.braces} (λ x q l. (l.0, initial_many x l.1.prints l.1.leads))
     y_init_of _ = y_map y_expr (λ a h. initial_one a.expr h)
 
-    y_init : Yields spare ns inner.init (Quiet ns (Initial ns))
+    pub y_init : Yields spare ns inner.init (Quiet ns (Initial ns))
     y_init = y_by y_init_of
 
-    y_some_init : Yields spare ns (inner.some inner.init) (Quiet ns (SomeInited ns))
+    pub y_some_init : Yields spare ns (inner.some inner.init) (Quiet ns (SomeInited ns))
     y_some_init = y_maybe {P = SomeInited ns} (y_map y_init (λ v h. h)) tt
 
     y_inits : Yields spare ns inner.inits (Quiet ns (Inited ns))
@@ -259,32 +259,32 @@ module _ (spare : ℕ) (ih : (k : Phrase) (u v : Place) (a : Of k) → SpellsIn 
     y_argument_of s.Text = y_map y_one (λ t u. argument_text t.text)
     y_argument_of _ = y_map y_expr (λ a h. argument_value a.expr h)
 
-    y_attribute : Yields spare ns inner.attribute (Quiet ns (Attribute ns))
+    pub y_attribute : Yields spare ns inner.attribute (Quiet ns (Attribute ns))
     y_attribute = y_seq (y_seq {R = λ t. IsName t.text} y_one y_name (λ t n u h. h)) (y_seq {R = λ l. All (Argument ns) l} y_one (y_seq {R = λ l. All (Argument ns) l} (y_maybe {P = λ l. All (Argument ns) l}
         (y_loop {P = λ l. All (Argument ns) l} (y_map (y_by y_argument_of) (λ a h. (h, tt))) (λ x. y_when (gr.is_comma x) (y_map (y_seq {R = Argument ns} y_one (y_by y_argument_of) (λ t a u h. h)) (λ a h l g. all_pushed (Argument ns) l a g h)))) tt) y_one (λ l t h u. h)) (λ t l u h. h))
         (λ t l h g. record { is_name = h; args = g })
 
-    y_attributes : Yields spare ns inner.attributes (Quiet ns (λ l. All (Attribute ns) l))
+    pub y_attributes : Yields spare ns inner.attributes (Quiet ns (λ l. All (Attribute ns) l))
     y_attributes = y_many tt (λ x. y_when (inner.is_at x) (y_map y_attribute (λ a h l g. all_pushed (Attribute ns) l a g h)))
 
     -- ---- variables
 
-    y_plain_variable : Yields spare ns inner.plain_variable (Quiet ns (λ v. vars.Declarator ns v.declarator.stars v.declarator.name v.declarator.dims))
+    pub y_plain_variable : Yields spare ns inner.plain_variable (Quiet ns (λ v. vars.Declarator ns v.declarator.stars v.declarator.name v.declarator.dims))
     y_plain_variable = y_seq {Q = λ f. (n : ℕ) → vars.Declarator ns (f n).declarator.stars (f n).declarator.name (f n).declarator.dims} (y_stars (law spare)) (y_seq y_name (y_dims (law spare)) (λ t l h g n. record { is_name = h; dims = g })) (λ n f u h. h n)
 
-  y_variable : {ns : Names} → Yields spare ns inner.variable (DeclaredVariable ns)
+  pub y_variable : {ns : Names} → Yields spare ns inner.variable (DeclaredVariable ns)
   y_variable {ns = ns} = y_then {P = λ v q. (q.names ≡ inner.hidden v.declarator.name ns) × vars.Declarator ns v.declarator.stars v.declarator.name v.declarator.dims} {Q = λ v q. Quiet q.names (SomeInited q.names)}
       (y_then {P = λ v q. (q.names ≡ inner.hidden v.declarator.name ns) × vars.Declarator ns v.declarator.stars v.declarator.name v.declarator.dims} {Q = λ v q. Quiet q.names (λ l. All (Attribute q.names) l)}
       (y_declare y_plain_variable (λ v q h. (ap (inner.hidden v.declarator.name) h.0, h.1))) (λ v q h. y_attributes) (λ v q l r h g. (g.0 ∙ h.0, h.1)))
       (λ v q h. y_maybe {P = SomeInited q.names} (y_map (y_seq {R = Initial q.names} y_one y_init (λ t x u h. h)) (λ x h. h)) tt)
       (λ v q x r h g. (g.0 ∙ h.0, record { declarator = h.1; init = subst (λ n. MaybeInitial n x) h.0 (maybe_initial q.names x g.1) }))
 
-  y_variables : {ns : Names} → Yields spare ns inner.variables (λ vs q. Several ns vs q.names)
+  pub y_variables : {ns : Names} → Yields spare ns inner.variables (λ vs q. Several ns vs q.names)
   y_variables {ns = ns} = y_loop_to (Several ns) (y_map_to y_variable (λ v q h. (subst (AllDeclared (v ∷ []) ns) (sym h.0) (AllDeclared.more h.1 AllDeclared.none), one_cons v)))
       (λ x ms. y_when (gr.is_comma x) (y_map_to (y_behind y_variable) (λ v q h vs g. (subst (AllDeclared (vs ++ (v ∷ [])) ns) (sym h.0) (declared_pushed vs v g.0 h.1), pushed_cons vs v))))
 
   module _ {ns : Names} where
-    y_type : Yields spare ns gr.type_form (Quiet ns (FineType ns))
+    pub y_type : Yields spare ns gr.type_form (Quiet ns (FineType ns))
     y_type = y_type_form (law spare)
 
   -- behind `typedef`
@@ -369,7 +369,7 @@ module _ (spare : ℕ) (ih : (k : Phrase) (u v : Place) (a : Of k) → SpellsIn 
 
   -- ---- blocks
 
-  y_item : {ms : Names} (ns : Names) (j : Jumps) (x : Sort) → Yields spare ms (gs.item_of j x) (λ a q. (l : List Stmt) → Items j l ns ms → Items j (l ++ (a ∷ [])) ns q.names)
+  pub y_item : {ms : Names} (ns : Names) (j : Jumps) (x : Sort) → Yields spare ms (gs.item_of j x) (λ a q. (l : List Stmt) → Items j l ns ms → Items j (l ++ (a ∷ [])) ns q.names)
   unfolding StmtLaw
   y_item ns j x = y_if (begins_local x) (y_sub {k = Phrase.local} (λ a q k l r. row_pushed l a r (b.item_local j a k) (b.local_leads j a k)))
       (y_sub {k = Phrase.stmt j} (λ a q k l r. subst (λ n. Items j (l ++ (a ∷ [])) ns n) (sym k.0) (row_pushed l a r (b.item_stmt j a k.1) (b.stmt_leads j a k.1))))

@@ -239,7 +239,7 @@ pub has_stars : {ns : Names} (n : ℕ) → Prints ns ns gr.stars (stars n) (λ y
 has_stars zero = has_less no_star (λ m h. h) (has_nothing refl)
 has_stars (suc n) = has_some (lead s.Star Signs.star_sorted refl) (has_phrase {k = Phrase.pointers} (has_seq (has_token Signs.star_sorted (λ t w. w)) lead_any (has_stars n) (λ t m w h. ap suc h)) (λ m h. h))
 
-stars_end : {ns ms : Names} {F : Sort → Type 0} {vs : Words} (n : ℕ) → Leads ns ms vs F Ends → Leads ns ms (stars n ++ vs) F Ends
+pub stars_end : {ns ms : Names} {F : Sort → Type 0} {vs : Words} (n : ℕ) → Leads ns ms vs F Ends → Leads ns ms (stars n ++ vs) F Ends
 stars_end zero j = j
 stars_end (suc n) j = lead s.Star Signs.star_sorted refl
 

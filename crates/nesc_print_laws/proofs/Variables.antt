@@ -83,7 +83,7 @@ end_init s.Comma h = refl
 end_init s.Semi h = refl
 end_init _ h = absurd cc
 
-end_plain : (y : Sort) → VarEnd y → (inner.is_at y ≡ false) × (gr.is_bracket y ≡ false) × (starts (gr.map (λ (x : Init). Some x) (gr.behind (gr.one s.Assign) inner.init)) y ≡ false)
+pub end_plain : (y : Sort) → VarEnd y → (inner.is_at y ≡ false) × (gr.is_bracket y ≡ false) × (starts (gr.map (λ (x : Init). Some x) (gr.behind (gr.one s.Assign) inner.init)) y ≡ false)
 unfolding var_end
 end_plain s.Comma h = (refl, refl, refl)
 end_plain s.Semi h = (refl, refl, refl)
@@ -151,13 +151,13 @@ no_initial ns = tt
 pub an_initial : (ns : Names) (x : Init) → Initial ns x → MaybeInitial ns (Some x)
 an_initial ns x h = h
 
-named_is : (v : Variable) → named_words v.declarator ≡ declarator_words v.declarator.stars v.declarator.name (dim_words (exprs (map expr_of v.declarator.dims)))
+pub named_is : (v : Variable) → named_words v.declarator ≡ declarator_words v.declarator.stars v.declarator.name (dim_words (exprs (map expr_of v.declarator.dims)))
 named_is v = ap (λ (z : Rattle.nesc_tree.specs.View.Declarator). declarator_words z.0 z.1 (dim_words z.2)) (view.declarator_view v.declarator)
 
-SameMaybeInit : Option Init → Option Init → Type 0
+pub SameMaybeInit : Option Init → Option Init → Type 0
 SameMaybeInit x y = option_map init_shape y ≡ option_map init_shape x
 
-has_some_init : {ns : Names} (x : Option Init) → MaybeInitial ns x → Prints ns ns inner.some_init (or_nothing (option_map initialised x)) VarEnd (SameMaybeInit x)
+pub has_some_init : {ns : Names} (x : Option Init) → MaybeInitial ns x → Prints ns ns inner.some_init (or_nothing (option_map initialised x)) VarEnd (SameMaybeInit x)
 unfolding SameMaybeInit
 has_some_init None k = has_less (λ y h. (end_plain y h).2) (λ a h. h) (has_nothing refl)
 has_some_init (Some x) k = has_some (lead s.Assign Signs.gets_sorted refl) (has_map (has_behind (has_token Signs.gets_sorted (λ t w. w)) lead_any (has_less end_init (λ a h. h) k.prints)) (λ a h. ap Some h))
@@ -169,7 +169,7 @@ init_lead (Some x) = lead s.Assign Signs.gets_sorted gets_plain
 abbrev pub Shaped : Variable → Variable → Type 0
 Shaped v u = variable_shape u ≡ variable_shape v
 
-variable_same : (v u : Variable) (x : Option Init) → SameVariable v.declarator.stars v.declarator.name v.declarator.dims u → SameMaybeInit v.init x → Shaped v (inner.with_init u x)
+pub variable_same : (v u : Variable) (x : Option Init) → SameVariable v.declarator.stars v.declarator.name v.declarator.dims u → SameMaybeInit v.init x → Shaped v (inner.with_init u x)
 unfolding SameMaybeInit
 variable_same v u x h g = four h.stars h.name (exprs_same (map expr_of v.declarator.dims) u.declarator.dims h.dims) g
   where
@@ -202,7 +202,7 @@ pub declared_pushed : (vs : List Variable) (v : Variable) {ns ms : Names} → Al
 declared_pushed [] v AllDeclared.none k = AllDeclared.more k AllDeclared.none
 declared_pushed (u ∷ vs) v (AllDeclared.more d a) k = AllDeclared.more d (declared_pushed vs v a k)
 
-each_variable : (vs : List Variable) {ns ms : Names} → AllDeclared vs ns ms → Each inner.variable variable_words VarEnd Shaped vs ns ms
+pub each_variable : (vs : List Variable) {ns ms : Names} → AllDeclared vs ns ms → Each inner.variable variable_words VarEnd Shaped vs ns ms
 each_variable [] AllDeclared.none = Each.none
 each_variable (v ∷ vs) (AllDeclared.more d a) = Each.more (has_variable v d) (each_variable vs a)
 
@@ -218,7 +218,7 @@ abbrev pub SameDecl : Decl → Decl → Type 0
 SameDecl x y = decl_shape y ≡ decl_shape x
 
 -- a type before a declared name
-spread : (a b c d : Words) → (a ++ b) ++ (c ++ d) ≡ (a ++ (b ++ c)) ++ d
+pub spread : (a b c d : Words) → (a ++ b) ++ (c ++ d) ≡ (a ++ (b ++ c)) ++ d
 spread a b c d = append_assoc a b (c ++ d) ∙ (ap (λ ws. a ++ ws) (sym (append_assoc b c d)) ∙ sym (append_assoc a (b ++ c) d))
 
 pub record TypeNamed (ns : Names) (name : List ℕ) (t : TypeSpec) (l : List Attr) : Type 0 where
@@ -226,10 +226,10 @@ pub record TypeNamed (ns : Names) (name : List ℕ) (t : TypeSpec) (l : List Att
   pub declarator : Declarator ns t.stars name t.dims
   pub attrs : All (Attribute (sorts.declared name true ns)) l
 
-before_is : (t : TypeSpec) → before_name (spec_of t) ≡ flagged t.is_const (codes "const") ++ (base_words (base_of t.base) ++ stars t.stars)
+pub before_is : (t : TypeSpec) → before_name (spec_of t) ≡ flagged t.is_const (codes "const") ++ (base_words (base_of t.base) ++ stars t.stars)
 before_is t = ap before_name (view.spec_view t)
 
-behind_is : (t : TypeSpec) → behind_name (spec_of t) ≡ dim_words (exprs (map expr_of t.dims))
+pub behind_is : (t : TypeSpec) → behind_name (spec_of t) ≡ dim_words (exprs (map expr_of t.dims))
 behind_is t = ap behind_name (view.spec_view t)
 
 not_bracket : {ns ms : Names} (l : List Attr) → Leads ns ms (attrs_words l ++ (semicolon ∷ [])) Any (λ y. gr.is_bracket y ≡ false)
@@ -278,7 +278,7 @@ pub record Plain (ns : Names) (t : TypeSpec) : Type 0 where
   pub stars : t.stars ≡ 0
   pub dims : t.dims ≡ []
 
-plain_spec : (ns : Names) (t : TypeSpec) → Plain ns t → spec_of t ≡ p.type_spec (base_of t.base) 0 p.no_exprs t.is_const
+pub plain_spec : (ns : Names) (t : TypeSpec) → Plain ns t → spec_of t ≡ p.type_spec (base_of t.base) 0 p.no_exprs t.is_const
 plain_spec ns t h = view.spec_view t ∙ two (λ n d. p.type_spec (base_of t.base) n (exprs (map expr_of d)) t.is_const) h.stars h.dims
 
 pub plain_type : {ns : Names} (t : TypeSpec) → Plain ns t → Prints ns ns gr.type_form (type_words (spec_of t)) Ends (λ u. placeless_type (spec_of u.ty) ≡ placeless_type (spec_of t))
@@ -294,7 +294,7 @@ plain_leads {ns = ns} {ms = ms} t vs k j = subst (λ ws. Leads ns ms (ws ++ vs) 
 first_is : {ns ms : Names} (v : Variable) (vs : List Variable) → AllDeclared (v ∷ vs) ns ms → Declarator ns v.declarator.stars v.declarator.name v.declarator.dims
 first_is v vs (AllDeclared.more d a) = d.declarator
 
-spelled_out : (v : Variable) (ws : Words) → variable_words v ++ ws ≡ stars v.declarator.stars ++ (word v.declarator.name ∷ ((dim_words (exprs (map expr_of v.declarator.dims)) ++ or_nothing (option_map initialised v.init)) ++ ws))
+pub spelled_out : (v : Variable) (ws : Words) → variable_words v ++ ws ≡ stars v.declarator.stars ++ (word v.declarator.name ∷ ((dim_words (exprs (map expr_of v.declarator.dims)) ++ or_nothing (option_map initialised v.init)) ++ ws))
 spelled_out v ws =
     let a : Words = stars v.declarator.stars in
     let b : Words = dim_words (exprs (map expr_of v.declarator.dims)) in

@@ -80,11 +80,11 @@ y_one = y_token (λ t e. tt)
 
 -- ---- what a word is
 
-avoids : Sort → List (List ℕ × Sort) → Bool
+unfoldable pub avoids : Sort → List (List ℕ × Sort) → Bool
 avoids x [] = true
 avoids x (r ∷ rs) = cond (same_sort r.1 x) false (avoids x rs)
 
-never : (x : Sort) (rows : List (List ℕ × Sort)) (text : List ℕ) (rest : Sort) → avoids x rows ≡ true → same_sort rest x ≡ false → found_in rows text rest ≡ x → ⊥
+pub never : (x : Sort) (rows : List (List ℕ × Sort)) (text : List ℕ) (rest : Sort) → avoids x rows ≡ true → same_sort rest x ≡ false → found_in rows text rest ≡ x → ⊥
 unfolding avoids
 never x [] text rest a o h = differs (same_sort x x) (same_self x) (subst (λ (y : Sort). same_sort y x ≡ false) h o)
   where
@@ -100,33 +100,33 @@ never x (r ∷ rs) text rest a o h = by (bytes_eq text r.0) (same_sort r.1 x) re
     by true false e g h k = here false e refl h
     by false false e g h k = k g o h
 
-named_word : (x : Sort) (b : Bool) → named x b ≡ s.Word → (x ≡ s.Word) × (b ≡ false)
+pub named_word : (x : Sort) (b : Bool) → named x b ≡ s.Word → (x ≡ s.Word) × (b ≡ false)
 named_word s.Word true h = absurd cc
 named_word s.Word false h = (refl, refl)
 named_word _ b h = absurd cc
 
-named_type : (x : Sort) (b : Bool) → named x b ≡ s.TypeName → same_sort x s.TypeName ≡ false → (x ≡ s.Word) × (b ≡ true)
+pub named_type : (x : Sort) (b : Bool) → named x b ≡ s.TypeName → same_sort x s.TypeName ≡ false → (x ≡ s.Word) × (b ≡ true)
 named_type s.Word true h k = (refl, refl)
 named_type s.Word false h k = absurd cc
 named_type s.TypeName b h k = absurd cc
 named_type _ b h k = absurd cc
 
-no_sign_word : (text : List ℕ) → sorts.sign text ≡ s.Word → ⊥
+pub no_sign_word : (text : List ℕ) → sorts.sign text ≡ s.Word → ⊥
 unfolding sorts.sign avoids
 no_sign_word text h = never s.Word sorts.signs text s.Other refl refl h
 
-is_other : (x y : Sort) (b : Bool) → same_sort x y ≡ b → (x ≡ y → ⊥) → b ≡ false
+pub is_other : (x y : Sort) (b : Bool) → same_sort x y ≡ b → (x ≡ y → ⊥) → b ≡ false
 is_other x y b e k = by b e
   where
     by : (b : Bool) → same_sort x y ≡ b → b ≡ false
     by true e = absurd (k (Rattle.nesc_tree.proofs.Same.same_is x y e))
     by false e = refl
 
-no_sign_type : (text : List ℕ) → sorts.sign text ≡ s.TypeName → ⊥
+pub no_sign_type : (text : List ℕ) → sorts.sign text ≡ s.TypeName → ⊥
 unfolding sorts.sign avoids
 no_sign_type text h = never s.TypeName sorts.signs text s.Other refl refl h
 
-no_keyword_type : (text : List ℕ) → sorts.keyword text ≡ s.TypeName → ⊥
+pub no_keyword_type : (text : List ℕ) → sorts.keyword text ≡ s.TypeName → ⊥
 unfolding sorts.keyword avoids
 no_keyword_type text h = never s.TypeName sorts.keywords text s.Word refl refl h
 

@@ -1,0 +1,9 @@
+pub mod Keywords
+pub mod DeclViews
+pub mod Params
+pub mod Heads
+pub mod Functions
+pub mod Outside
+pub mod Decls
+pub mod DeclsKnown
+pub mod DeclLaw
