@@ -1,0 +1,6 @@
+mod Keeps
+mod Exprs
+mod Stmts
+mod Decls
+pub mod Units
+mod Lexed
