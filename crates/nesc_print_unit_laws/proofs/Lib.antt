@@ -1,0 +1,9 @@
+mod Keywords
+mod Interfaces
+mod Generics
+mod Heads
+mod Lines
+mod Units
+mod UnitsKnown
+mod UnitLaw
+mod FilesLaw

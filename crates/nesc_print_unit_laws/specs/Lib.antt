@@ -1,0 +1,3 @@
+pub mod PrintedFiles
+pub mod UnitShapes
+pub mod UnitsAgain
