@@ -5,5 +5,5 @@ mod Heads
 mod Lines
 mod Units
 mod UnitsKnown
-mod UnitLaw
+pub mod UnitLaw
 mod FilesLaw
