@@ -1,6 +1,7 @@
 //! Initial values: a walk over initialisers.
 
 ghost use Rattle.std.specs.Prelude.{◌≡◌, IfOk, map};
+ghost use Rattle.std.specs.Option.{option_map};
 ghost use Rattle.nm_base.specs.declared.refusal.Refusal.TheVariants.{BadType};
 ghost use Rattle.nesc_core.specs.View.{expr_of as core_expr_of, type_of};
 ghost use Rattle.nesc_tree.specs.View.{expr_of};
@@ -8,9 +9,10 @@ ghost use Rattle.nesc_types.specs.Rule.{or_refuse};
 ghost use Rattle.elab_meaning.specs.Answers.{Follows, Gives};
 ghost use Rattle.elab_meaning.specs.View.{env_of, found_of, state_of, struct_of};
 ghost use Rattle.body_meaning.specs.Initial as spec;
+ghost use Rattle.body_meaning.specs.Stmts as stmts;
 ghost use Rattle.body_meaning.specs.Tree.{one};
 ghost use Rattle.body_meaning.specs.View.{init_of, inits};
-ghost use Rattle.elab_pieces.specs.Ways.{aim_of};
+ghost use Rattle.elab_pieces.specs.Ways.{aim_of, root_of};
 ghost use Rattle.elab_locals.specs.Parts as parts;
 ghost use Rattle.elab_locals.specs.Walk.{AreSteps, initial_at, initials_at, one_initial_at};
 
@@ -18,9 +20,9 @@ use crate::lists::add_steps;
 use elab_copies::stored;
 use elab_exprs::{Told, found};
 use elab_meaning::{Found, Work};
-use elab_pieces::{Part, part_of, target};
+use elab_pieces::{Part, Root, part_of, target};
 use elab_values::bad_type;
-use nesc_core::CoreExpr;
+use nesc_core::{CoreExpr, CoreType};
 use nesc_tree::{Expr, Init};
 use nesc_types::pos_of;
 use nm_base::{Fault, List, NoMemory, Pos};
@@ -153,9 +155,9 @@ fn one_initial(
     initial_of(alloc, told, work, i, at, part)
 }
 
-/// The assignments that give a part of a local its initial value, at the variable's name.
+// The assignments that give a part its initial value, at the variable's name.
 #[tactic(auto, unfolding(crate::specs::Walk::AreSteps, crate::specs::Walk::initial_at))]
-pub fn initial(
+fn initial(
     alloc: Global,
     told: &Told,
     work: &mut Work,
@@ -166,4 +168,25 @@ pub fn initial(
     ensures { Gives (λ v. map core_expr_of v.items) result (state_of work.new) (spec.initial (env_of told.now.env) told.now.values at (aim_of p) (init_of i.now) (state_of work.old)) }
 {
     initial_of(alloc, told, work, i, at, p)
+}
+
+/// The assignments that give a local or a variable of a module its initial value, at its name: none where it has none.
+pub fn initials_of(
+    alloc: Global,
+    told: &Told,
+    work: &mut Work,
+    at: Pos,
+    root: Root,
+    ty: CoreType,
+    init: &Option<Init>,
+) -> Result<Vec<CoreExpr>, Fault>
+    ensures { Gives (λ v. map core_expr_of v.items) result (state_of work.new) (stmts.initials_of (env_of told.now.env) told.now.values at (root_of root) (type_of ty) (option_map init_of init.now) (state_of work.old)) }
+{
+    match init {
+        None => Ok(Vec::new(alloc)),
+        Some(i) => {
+            let steps = Vec::new(alloc);
+            initial(alloc, told, work, at, Part { root, steps, ty }, i)
+        }
+    }
 }

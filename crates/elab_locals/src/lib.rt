@@ -7,5 +7,5 @@ mod lists;
 mod locals;
 
 pub use declarations::{declaration, declares, syntax};
-pub use initials::initial;
-pub use lists::add_stmts;
+pub use initials::initials_of;
+pub use lists::{add_stmts, evaluated};

@@ -35,8 +35,9 @@ fn evals(alloc: Global, steps: Vec<CoreExpr>) -> Result<Vec<CoreStmt>, NoMemory>
     Ok(steps.into_iter().map(|e| CoreStmt::Eval(e)).collect(alloc)?)
 }
 
+/// Expressions as statements, each evaluated in its turn.
 #[tactic(auto, using(crate::proofs::Evals::evals))]
-fn evaluated(alloc: Global, steps: Vec<CoreExpr>) -> Result<Vec<CoreStmt>, NoMemory>
+pub fn evaluated(alloc: Global, steps: Vec<CoreExpr>) -> Result<Vec<CoreStmt>, NoMemory>
     ensures { IfOk result (λ v. map stmt_of v.items ≡ map core.eval (map expr_of steps.items)) }
 {
     evals(alloc, steps)

@@ -12,12 +12,12 @@ ghost use Rattle.body_meaning.specs.Tree.{Variable};
 ghost use Rattle.body_meaning.specs.View.{init_of, variable_of};
 ghost use Rattle.elab_locals.specs.Parts as parts;
 
-use crate::initials::initial;
+use crate::initials::initials_of;
 use crate::lists::{add_stmts, cleared};
 use elab_exprs::{Told, lengths};
 use elab_forms::{is_const_at, resolved, starred};
 use elab_meaning::{Based, Meaning, Work};
-use elab_pieces::Part;
+use elab_pieces::Root;
 use elab_types::new_name;
 use elab_values::{copied, size};
 use nesc_core::{CoreStmt, CoreType};
@@ -88,14 +88,8 @@ fn set(
 ) -> Result<Vec<CoreStmt>, Fault>
     ensures { Gives (λ v. map stmt_of v.items) result (state_of work.new) (parts.set (env_of told.now.env) told.now.values at local (type_of ty) (option_map init_of init.now) (state_of work.old)) }
 {
-    match init {
-        None => Ok(cleared(alloc, local, Vec::new(alloc))?),
-        Some(i) => {
-            let steps = Vec::new(alloc);
-            let done = initial(alloc, told, work, at, Part { local, steps, ty }, i)?;
-            Ok(cleared(alloc, local, done)?)
-        }
-    }
+    let done = initials_of(alloc, told, work, at, Root::Local(local), ty, init)?;
+    Ok(cleared(alloc, local, done)?)
 }
 
 fn variable(

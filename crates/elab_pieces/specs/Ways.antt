@@ -1,4 +1,4 @@
--- Parts of a local that an initialiser is for (own).
+-- Parts of a local or of a variable that an initialiser is for (own).
 use Rattle.std.specs.Prelude.{ℕ, List, [], ◌∷◌, fold}
 use Rattle.nm_base.specs.declared.int_type.IntType.{IntType}
 use Rattle.nm_base.specs.declared.int_type.IntType.TheVariants.{I16}
@@ -8,6 +8,8 @@ use Rattle.nesc_core.specs.View.{type_of}
 use Rattle.elab_meaning.specs.Convert.{Target, target}
 use Rattle.elab_meaning.specs.Places.{element_number}
 use Rattle.elab_pieces.specs.declared.parts.Part as rust_part
+use Rattle.elab_pieces.specs.declared.parts.Root.{Root}
+use Rattle.elab_pieces.specs.declared.parts.Root.TheVariants as R
 use Rattle.elab_pieces.specs.declared.parts.Step.{Step}
 use Rattle.elab_pieces.specs.declared.parts.Step.TheVariants as S
 
@@ -26,11 +28,15 @@ stepped t s =
     let w = step_from (record { place = t.place; indexes = t.indexes }) s in
     target w.place w.indexes t.ty
 
-abbrev pub start_at : (local : ℕ) → Way
-start_at k = record { place = core.local k; indexes = [] }
+abbrev pub root_of : Root → Place
+root_of (R.Local k) = core.local k
+root_of (R.Object k) = core.object k
+
+abbrev pub start_at : Root → Way
+start_at r = record { place = root_of r; indexes = [] }
 
 abbrev pub way_of : rust_part.Part → Way
-way_of p = fold step_from (start_at p.local) p.steps.items
+way_of p = fold step_from (start_at p.root) p.steps.items
 
 abbrev pub aim : Way → Ty → Target
 aim w t = target w.place w.indexes t

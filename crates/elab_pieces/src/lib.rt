@@ -1,4 +1,4 @@
-//! Pieces of wired statements: parts of locals, statements of the core from their parts, scopes, labels, and what stands in a statement.
+//! Pieces of wired statements: parts of locals and variables, statements of the core from their parts, scopes, labels, and what stands in a statement.
 #![tactic(auto)]
 
 mod labels;
@@ -9,7 +9,7 @@ mod scopes;
 mod shapes;
 
 pub use labels::{Labelled, add_code, add_label, no_labels, switch_on, unlabelled};
-pub use parts::{Part, Step, part_of};
+pub use parts::{Part, Root, Step, part_of};
 pub use pieces::{atomic, behind, block_of, branch, empty, eval, looped, one_of, return_of};
 pub use places::target;
 pub use scopes::{Outer, enter, leave};

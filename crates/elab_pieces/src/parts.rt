@@ -1,4 +1,4 @@
-//! Parts of a local: the element, the field, or the number or pointer itself that an initialiser is for.
+//! Parts of a local or of a variable: the element, the field, or the number or pointer itself that an initialiser is for.
 
 ghost use Rattle.std.specs.Prelude.{◌≡◌, IfOk, map};
 ghost use Rattle.std.specs.Option.{option_map};
@@ -14,6 +14,13 @@ use nesc_core::{CoreType, Field};
 use nm_base::NoMemory;
 use std::alloc::Global;
 
+/// What a place begins with: a local, or a variable of a module, with its number.
+#[derive(Clone, Copy)]
+pub enum Root {
+    Local(u32),
+    Object(u32),
+}
+
 /// A step from a place to a part of it: the element or the field with a number.
 #[derive(Clone, Copy)]
 pub enum Step {
@@ -21,10 +28,10 @@ pub enum Step {
     Field(u32),
 }
 
-/// A part of a local with its type.
+/// A part of a local or of a variable with its type.
 #[derive(Drop)]
 pub struct Part {
-    pub local: u32,
+    pub root: Root,
     pub steps: Vec<Step>,
     pub ty: CoreType,
 }
@@ -34,7 +41,7 @@ fn same(alloc: Global, p: &Part) -> Result<Part, NoMemory>
     ensures { IfOk result (λ r. aim_of r ≡ aim_of p.now) }
 {
     Ok(Part {
-        local: p.local,
+        root: p.root,
         steps: p.steps.clone()?,
         ty: copied(alloc, &p.ty)?,
     })
@@ -54,7 +61,7 @@ fn behind(p: &Part, step: Step, ty: CoreType) -> Result<Part, NoMemory>
     let mut steps = steps_of(p)?;
     steps.push(step)?;
     Ok(Part {
-        local: p.local,
+        root: p.root,
         steps,
         ty,
     })

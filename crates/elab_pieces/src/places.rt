@@ -1,18 +1,27 @@
-//! Parts of a local as places of the core.
+//! Parts of a local or of a variable as places of the core.
 
 ghost use Rattle.std.specs.Prelude.{◌≡◌, IfOk};
 ghost use Rattle.nesc_core.specs.Plain as core;
 ghost use Rattle.nesc_core.specs.View.{place_of};
 ghost use Rattle.elab_meaning.specs.Places.{element_number};
 ghost use Rattle.elab_meaning.specs.View.{target_of};
-ghost use Rattle.elab_pieces.specs.Ways.{aim_of, stepped};
+ghost use Rattle.elab_pieces.specs.Ways.{aim_of, root_of, stepped};
 
-use crate::parts::{Part, Step};
+use crate::parts::{Part, Root, Step};
 use elab_meaning::Target;
 use nesc_core::{CoreExpr, Place};
 use nm_base::{IntType, NoMemory};
 use std::alloc::Global;
 use std::collections::VecDeque;
+
+fn begun(root: Root) -> Place
+    ensures { place_of result ≡ root_of root }
+{
+    match root {
+        Root::Local(k) => Place::Local(k),
+        Root::Object(k) => Place::Object(k),
+    }
+}
 
 fn element(alloc: Global, place: Place, i: u32) -> Result<Place, NoMemory>
     ensures { IfOk result (λ r. place_of r ≡ element_number (place_of place) i) }
@@ -57,9 +66,9 @@ fn step(alloc: Global, t: Target, s: Step) -> Result<Target, NoMemory>
 pub fn target(alloc: Global, p: Part) -> Result<Target, NoMemory>
     ensures { IfOk result (λ r. target_of r ≡ aim_of p) }
 {
-    let Part { local, steps, ty } = p;
+    let Part { root, steps, ty } = p;
     let mut target = Target {
-        place: Place::Local(local),
+        place: begun(root),
         indexes: VecDeque::new(alloc),
         ty,
     };

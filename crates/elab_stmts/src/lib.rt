@@ -6,4 +6,4 @@ mod stmts;
 mod switches;
 mod walk;
 
-pub use stmts::stmt;
+pub use stmts::{items, stmt};

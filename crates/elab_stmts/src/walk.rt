@@ -81,7 +81,7 @@ fn block(
 // Statements and declarations, in their order.
 #[cycle(walk)]
 #[tactic(auto, using(crate::proofs::Loops::item_lists), unfolding(crate::specs::Walk::AreStmts, crate::specs::Walk::item_at, crate::specs::Walk::items_at))]
-fn items(
+pub(crate) fn items(
     alloc: Global,
     told: &Told,
     work: &mut Work,

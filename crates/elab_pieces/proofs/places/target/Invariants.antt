@@ -5,4 +5,4 @@ use Rattle.elab_pieces.specs.Ways.{aim, start_at, step_from}
 use Rattle.elab_pieces.proofs.places.target.Given as goal
 
 abbrev pub invariant-loop-s : goal.invariant-loop-s
-invariant-loop-s l = target_of l.target ≡ aim (fold step_from (start_at l.fn.p.local) (take l.s-index l.fn.p.steps.items)) (type_of l.fn.p.ty)
+invariant-loop-s l = target_of l.target ≡ aim (fold step_from (start_at l.fn.p.root) (take l.s-index l.fn.p.steps.items)) (type_of l.fn.p.ty)
