@@ -1,5 +1,5 @@
--- The uses of `unique` in a part of a tree, each with its text and its place, in the order of the source.
-use Rattle.std.specs.Prelude.{List, [], ◌∷◌, ◌++◌}
+-- The uses of `unique` and `uniqueCount` in a part of a tree, each with its text and its place, in the order of the source.
+use Rattle.std.specs.Prelude.{true, false, List, [], ◌∷◌, ◌++◌}
 use Rattle.nesc_tree.specs.Plain as s
 use Rattle.wire_uniques.specs.declared.used.Use.{Use}
 
@@ -12,8 +12,8 @@ abbrev mutual
   in_expr (s.number n at) = []
   in_expr (s.char n at) = []
   in_expr (s.null at) = []
-  in_expr (s.unique n at) = record { text = n; at = at } ∷ []
-  in_expr (s.unique_count n at) = []
+  in_expr (s.unique n at) = record { text = n; at = at; is_count = false } ∷ []
+  in_expr (s.unique_count n at) = record { text = n; at = at; is_count = true } ∷ []
   in_expr (s.unary o e at) = in_expr e
   in_expr (s.postfix o e at) = in_expr e
   in_expr (s.binary o a b at) = in_expr a ++ in_expr b

@@ -1,4 +1,4 @@
--- The uses of `unique` in what a file holds, in the order of the source: those of an instance are those of its
+-- The uses of `unique` and `uniqueCount` in what a file holds, in the order of the source: those of an instance are those of its
 -- component's file.
 use Rattle.std.specs.Prelude.{cond, List, [], ◌++◌, map, Option, option_map, slice_get}
 use Rattle.nesc_tree.specs.View.{expr_of, spec_of}

@@ -1,4 +1,4 @@
--- The uses of `unique` in declarations and statements, in the order of the source. Attributes have no effect but
+-- The uses of `unique` and `uniqueCount` in declarations and statements, in the order of the source. Attributes have no effect but
 -- `@vector`, whose number is a constant; the others give no number.
 use Rattle.std.specs.Prelude.{cond, List, [], ◌∷◌, ◌++◌, map, codes, bytes_eq, Option, Some, None, option_map}
 use Rattle.nesc_tree.specs.View.{expr_of, spec_of}

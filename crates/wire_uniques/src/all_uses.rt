@@ -19,6 +19,7 @@ use wire_units::Loaded;
 
 /// The constants of the uses of `unique`: headers' first, in the order of reading, and then those of each instance, in the order
 /// of its source. `starts` tells for each instance where its first one stands; `headers` and, for each file, `files` are the uses.
+/// What asks for a count stands among them, with a number that means nothing.
 #[derive(Debug, Drop)]
 pub struct Uniques {
     pub numbers: Vec<usize>,
@@ -29,7 +30,7 @@ pub struct Uniques {
 }
 
 impl Uniques {
-    /// The value of `uniqueCount` for this text.
+    /// The value of `uniqueCount` for this text, 0 where `unique` is never used with it.
     pub fn count(&self, text: &Name) -> usize
         ensures { result ≡ unwrap_or (place_of self.now.counts text.now) 0 }
     {

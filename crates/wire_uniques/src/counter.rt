@@ -1,14 +1,28 @@
 //! The numbers of uses of texts.
 
-ghost use Rattle.std.specs.Prelude.{◌≡◌, ◌+◌, ◌++◌, ◌∷◌, [], OnOk, length, unwrap_or, List as ListOf};
+ghost use Rattle.std.specs.Prelude.{◌≡◌, ◌+◌, ◌++◌, ◌∷◌, [], Some, OnOk, cond, length, unwrap_or, ℕ, List as ListOf};
 ghost use Rattle.wire_names.specs.Places.{place_of};
 ghost use Rattle.wire_uniques.specs.Expressions.{Uses};
-ghost use Rattle.wire_uniques.specs.Numbers.{AreNumbers};
+ghost use Rattle.wire_uniques.specs.Numbers.{AreNumbers, uses_text};
 
 use crate::used::Use;
 use nm_base::{Name, NoMemory};
 use std::alloc::Global;
 use wire_names::Places;
+
+// Counts one use more of its text, which is used so often; a text that is asked for its count is not used.
+fn note(counts: &mut Places, one: &Use, before: usize) -> Result<(), NoMemory>
+    ensures { OnOk result ((other : ListOf ℕ) → place_of counts.new other ≡ cond (uses_text other one.now) (Some (before + 1)) (place_of counts.old other)) }
+{
+    if one.is_count {
+        return Ok(());
+    }
+    let Some(more) = before.checked_add(1) else {
+        return Err(NoMemory);
+    };
+    counts.set(&one.text, more)?;
+    Ok(())
+}
 
 /// The number of uses of each text, and the number that each use got.
 #[derive(Debug, Drop)]
@@ -40,10 +54,7 @@ impl Counter {
         ensures grows { OnOk result (length self.new.numbers.items ≡ length self.old.numbers.items + 1) }
     {
         let count = self.count(&one.text);
-        let Some(more) = count.checked_add(1) else {
-            return Err(NoMemory);
-        };
-        self.counts.set(&one.text, more)?;
+        note(&mut self.counts, one, count)?;
         self.numbers.push(count)?;
         Ok(())
     }

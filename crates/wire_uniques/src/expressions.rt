@@ -1,4 +1,4 @@
-//! The uses of `unique` in expressions and types. Each function adds the uses in its part to those before it.
+//! The uses of `unique` and `uniqueCount` in expressions and types. Each function adds the uses in its part to those before it.
 
 ghost use Rattle.std.specs.Prelude.{◌≡◌, ◌++◌, ◌∷◌, [], OnOk};
 ghost use Rattle.nesc_tree.specs.View.{base_of, expr_of, exprs_of, spec_of};
@@ -9,11 +9,11 @@ use crate::used::Use;
 use nesc_tree::{Base, Declarator, EnumItem, Expr, FieldGroup, TypeSpec};
 use nm_base::{Boxed, List, Name, NoMemory, Pos};
 
-fn add(found: &mut Vec<Use>, text: &Name, at: Pos) -> Result<(), NoMemory>
-    ensures { OnOk result (found.new.items ≡ found.old.items ++ record { text = text.now; at = at } ∷ []) }
+fn add(found: &mut Vec<Use>, text: &Name, at: Pos, is_count: bool) -> Result<(), NoMemory>
+    ensures { OnOk result (found.new.items ≡ found.old.items ++ record { text = text.now; at = at; is_count = is_count } ∷ []) }
 {
     let text = text.clone()?;
-    found.push(Use { text, at })?;
+    found.push(Use { text, at, is_count })?;
     Ok(())
 }
 
@@ -27,9 +27,9 @@ pub fn in_expr(found: &mut Vec<Use>, e: &Expr) -> Result<(), NoMemory>
         | Expr::Number(_, _)
         | Expr::Char(_, _)
         | Expr::Null(_)
-        | Expr::UniqueCount(_, _)
         | Expr::Post(_, _) => Ok(()),
-        Expr::Unique(text, at) => add(found, text, *at),
+        Expr::Unique(text, at) => add(found, text, *at, false),
+        Expr::UniqueCount(text, at) => add(found, text, *at, true),
         Expr::Unary(_, a, _) | Expr::Postfix(_, a, _) => in_expr(found, a.get()),
         Expr::Binary(_, a, b, _) | Expr::Assign(_, a, b, _) => {
             in_expr(found, a.get())?;

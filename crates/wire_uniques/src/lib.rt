@@ -1,4 +1,4 @@
-//! The uses of `unique` in the sources of an application, and their numbers.
+//! The uses of `unique` and `uniqueCount` in the sources of an application, and their numbers.
 #![tactic(auto)]
 
 mod all_uses;

@@ -10,6 +10,11 @@ returns c = λ t. record {
   by_text = refl;
   counts = refl;
   unused = refl;
+  asked = refl;
+  asked_only = refl;
+  asked_and_used = refl;
+  asked_beside = refl;
+  numbered_beside = refl;
   from_the_right = λ a b h k. rw (h, k) refl;
   from_the_left = λ a b h k. rw (h, k) refl;
 }
