@@ -1,7 +1,5 @@
 //! What a file is printed as, and whether that reads back.
 
-use crate::parts::put_unit;
-use crate::text::put;
 use nesc_left_out::mark;
 use nesc_parse_comp::{parse_component, parse_interface};
 use nesc_parse_list::parse_decls;
@@ -55,17 +53,14 @@ fn parsed(alloc: Global, kind: u8, name: &Name, text: &[u8]) -> Result<Unit, Fau
     }
 }
 
-// The tree but for its places.
-fn shape(alloc: Global, unit: &Unit) -> Result<Vec<u8>, NoMemory> {
-    let mut out = Vec::new(alloc);
-    put_unit(&mut out, unit)?;
-    Ok(out)
+fn print_unit(alloc: Global, unit: &Unit) -> Result<Vec<u8>, Fault> {
+    Ok(print(alloc, unit)?)
 }
 
-// Whether a printed text reads as this tree, but for places.
-fn reads_as(alloc: Global, kind: u8, name: &Name, text: &[u8], unit: &Unit) -> Result<bool, Fault> {
-    let again = parsed(alloc, kind, name, text)?;
-    Ok(shape(alloc, &again)?.as_slice() == shape(alloc, unit)?.as_slice())
+// The file as it is printed.
+fn printed(alloc: Global, kind: u8, name: &Name, text: &[u8]) -> Result<Vec<u8>, Fault> {
+    let unit = parsed(alloc, kind, name, text)?;
+    print_unit(alloc, &unit)
 }
 
 // The kind and the name in a line `= c NAME`.
@@ -76,13 +71,14 @@ fn named(head: &[u8]) -> (u8, &[u8]) {
     }
 }
 
-/// The file of this head and text as it is printed, and a line that says whether its tree is read again.
+/// The file of this head and text as it is printed, and a line that says whether that is parsed again as a tree with the same words, and so
+/// as the same tree up to places.
 pub fn answer(alloc: Global, head: &[u8], text: &[u8]) -> Result<Vec<u8>, Fault> {
     let (kind, name) = named(head);
     let name = Name::new(alloc, name)?;
-    let unit = parsed(alloc, kind, &name, text)?;
-    let mut out = print(alloc, &unit)?;
-    let is_same = reads_as(alloc, kind, &name, out.as_slice(), &unit)?;
-    put(&mut out, if is_same { b"same\n" } else { b"another\n" })?;
+    let mut out = printed(alloc, kind, &name, text)?;
+    let again = printed(alloc, kind, &name, out.as_slice())?;
+    let is_same = again.as_slice() == out.as_slice();
+    out.extend_from_slice(if is_same { b"same\n" } else { b"another\n" })?;
     Ok(out)
 }

@@ -2,18 +2,20 @@
 #![tactic(auto)]
 
 mod answer;
-mod decls;
-mod exprs;
-mod parts;
-mod text;
 
 use answer::answer;
+use nm_base::NoMemory;
 use std::alloc::Global;
 use std::io::{self, BufRead, BufReader, Write};
-use text::put;
 
 /// What a line begins with that names a file: `c` is a component, `i` an interface, `h` a header.
 const MARK: &[u8] = b"= ";
+
+fn put(out: &mut Vec<u8>, line: &[u8], end: &[u8]) -> Result<(), NoMemory> {
+    out.extend_from_slice(line)?;
+    out.extend_from_slice(end)?;
+    Ok(())
+}
 
 // Writes a file as it is printed.
 fn say(rt: &HostRuntime, alloc: Global, head: &[u8], text: &[u8]) -> io::Result<()> {
@@ -38,10 +40,10 @@ fn main(rt: HostRuntime) -> io::Result<()> {
             say(&rt, alloc, head.as_slice(), text.as_slice())?;
             head.clear();
             text.clear();
-            if put(&mut head, line.as_bytes()).is_err() {
+            if put(&mut head, line.as_bytes(), b"").is_err() {
                 println!(rt; "no memory")?;
             }
-        } else if put(&mut text, line.as_bytes()).is_err() || put(&mut text, b"\n").is_err() {
+        } else if put(&mut text, line.as_bytes(), b"\n").is_err() {
             println!(rt; "no memory")?;
         }
     }
