@@ -1,7 +1,9 @@
-//! Tests of constants and of dispatch functions, in a crate of their own: a crate with tests is proved twice.
+//! Tests of sizes, constants and dispatch functions, in a crate of their own: a crate with tests is proved twice.
 #![tactic(auto)]
 
 #[cfg(test)]
 mod fanout;
+#[cfg(test)]
+mod sizes;
 #[cfg(test)]
 mod types;

@@ -23,7 +23,7 @@ use elab_values::{assignable, bad_type, comma, converted, sized};
 use nesc_core::{CoreExpr, CoreType};
 use nesc_tree::{Expr, InOp, PostOp, PreOp, TypeSpec};
 use nesc_types::{Constant, character, number, pos_of};
-use nm_base::{Boxed, Fault, IntType, List, Name, Pos};
+use nm_base::{Boxed, Fault, IntType, List, Name, Pos, beside};
 use std::alloc::Global;
 
 // What an expression is.
@@ -129,7 +129,7 @@ fn between(
     ensures { IsFound result work.new (found_at told.now (s.binary o (expr_of a.now) (expr_of b.now) at) work.old) }
 {
     let x = value(alloc, told, work, a)?;
-    let y = value(alloc, told, work, b)?;
+    let (x, y) = beside(x, value(alloc, told, work, b))?;
     binary(alloc, work, o, at, x, y)
 }
 
@@ -149,7 +149,7 @@ fn assign(
 {
     let f = found(alloc, told, work, a)?;
     let p = assignable(at, f)?;
-    let g = found(alloc, told, work, b)?;
+    let (p, g) = beside(p, found(alloc, told, work, b))?;
     stored(alloc, work, o, at, pos_of(b), p, g)
 }
 
@@ -168,7 +168,7 @@ fn choice(
     ensures { IsFound result work.new (found_at told.now (s.choice (expr_of a.now) (expr_of b.now) (expr_of c.now) at) work.old) }
 {
     let x = value(alloc, told, work, a)?;
-    let y = value(alloc, told, work, b)?;
+    let (x, y) = beside(x, value(alloc, told, work, b))?;
     choice_with(alloc, told, work, c, at, x, y)
 }
 
@@ -186,7 +186,7 @@ fn choice_with(
 ) -> Result<Found, Fault>
     ensures { IsFound result work.new (chosen_at told.now (expr_of c.now) at (typed_of x) (typed_of y) work.old) }
 {
-    let z = value(alloc, told, work, c)?;
+    let ((x, y), z) = beside((x, y), value(alloc, told, work, c))?;
     chosen(alloc, at, x, y, z)
 }
 
@@ -197,7 +197,7 @@ fn both(alloc: Global, told: &Told, work: &mut Work, a: &Expr, b: &Expr) -> Resu
     ensures { IsFound result work.new (found_at told.now (s.comma (expr_of a.now) (expr_of b.now) nowhere) work.old) }
 {
     let x = value(alloc, told, work, a)?;
-    let y = value(alloc, told, work, b)?;
+    let (x, y) = beside(x, value(alloc, told, work, b))?;
     Ok(comma(alloc, x, y)?)
 }
 
@@ -300,7 +300,7 @@ fn index(
 {
     let f = found(alloc, told, work, a)?;
     let base = indexed(alloc, work, pos_of(a), f)?;
-    let v = value(alloc, told, work, i)?;
+    let (base, v) = beside(base, value(alloc, told, work, i))?;
     element(alloc, work.structs.as_slice(), at, base, v)
 }
 

@@ -15,7 +15,7 @@ use crate::pointers::{moved, offset_by, pointer_found, stride_behind};
 use elab_meaning::{Found, Stride, Work};
 use elab_values::int_of;
 use nesc_core::{BinOp, CoreExpr, CoreType};
-use nm_base::{Fault, IntType, NoMemory, Pos};
+use nm_base::{Fault, IntType, NoMemory, Pos, beside};
 use std::alloc::Global;
 
 // A pointer moved by a number that waits in a local.
@@ -29,9 +29,10 @@ fn offset_behind(
 ) -> Result<Found, NoMemory>
     ensures { IfOk result (λ r. found_of r ≡ convert.value_found (spec.behind_kept at local (expr_of x) (core.offset (expr_of p) (core.read (core.local local) at) over.bytes)) (core.pointer (type_of over.part))) }
 {
-    let next = offset_by(alloc, p, read_local(local, at), over.bytes)?;
-    let e = behind_kept(alloc, at, local, x, next)?;
-    pointer_found(alloc, e, over.part)
+    let next = offset_by(alloc, p, read_local(local, at), over.bytes);
+    let ((x, part), next) = beside((x, over.part), next)?;
+    let (part, e) = beside(part, behind_kept(alloc, at, local, x, next))?;
+    pointer_found(alloc, e, part)
 }
 
 // A number plus a pointer.
@@ -46,8 +47,10 @@ fn moved_behind(
 ) -> Result<Found, Fault>
     ensures { Gives found_of result (state_of work.new) (spec.moved_behind a at (expr_of x) (typed (expr_of y) (type_of u.now)) (state_of work.old)) }
 {
-    let over = stride_behind(alloc, work.structs.as_slice(), at, u)?;
-    let first = work.fresh(CoreType::Int(a))?;
+    let over = stride_behind(alloc, work.structs.as_slice(), at, u);
+    let ((x, y), over) = beside((x, y), over)?;
+    let first = work.fresh(CoreType::Int(a));
+    let (((x, y), over), first) = beside(((x, y), over), first)?;
     Ok(offset_behind(alloc, at, first, x, y, over)?)
 }
 

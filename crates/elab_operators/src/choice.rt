@@ -13,19 +13,21 @@ ghost use Rattle.elab_meaning.specs.View.{found_of, typed_of};
 use crate::comparisons::together;
 use crate::pointers::pointer_found;
 use elab_meaning::{Found, Typed};
-use elab_values::{bad_type, int_of, integer, is_void, scalar, to_int, value_found};
+use elab_values::{
+    boxed_pair, compared_numbers, fitting, int_of, integer, is_void, scalar, value_found,
+};
 use nesc_core::{CoreExpr, CoreType};
 use nesc_types::common;
-use nm_base::{Fault, IntType, NoMemory, Pos};
+use nm_base::{Fault, IntType, NoMemory, Pos, beside};
 use std::alloc::Global;
 
 // Two branches in their boxes, behind a test.
 fn choice(alloc: Global, test: CoreExpr, y: CoreExpr, z: CoreExpr) -> Result<CoreExpr, NoMemory>
     ensures { IfOk result (λ r. expr_of r ≡ core.choice (expr_of test) (expr_of y) (expr_of z)) }
 {
-    let second = Box::new(alloc, z)?;
-    let first = Box::new(alloc, y)?;
-    Ok(CoreExpr::Cond(Box::new(alloc, test)?, first, second))
+    let (test, branches) = beside(test, boxed_pair(alloc, y, z))?;
+    let ((first, second), test) = beside(branches, Box::new(alloc, test))?;
+    Ok(CoreExpr::Cond(test, first, second))
 }
 
 // One of two numbers, at their common type.
@@ -39,10 +41,8 @@ fn number_chosen(
 ) -> Result<CoreExpr, NoMemory>
     ensures { IfOk result (λ r. expr_of r ≡ core.choice (expr_of test) (convert.to_int (types.common a b) a (expr_of y)) (convert.to_int (types.common a b) b (expr_of z))) }
 {
-    let t = common(a, b);
-    let first = to_int(alloc, t, a, y)?;
-    let second = to_int(alloc, t, b, z)?;
-    choice(alloc, test, first, second)
+    let (test, sides) = beside(test, compared_numbers(alloc, a, b, y, z))?;
+    choice(alloc, test, sides.first, sides.second)
 }
 
 fn chosen_numbers(
@@ -56,7 +56,8 @@ fn chosen_numbers(
 ) -> Result<Found, Fault>
     ensures { Follows found_of result (spec.chosen_numbers at (expr_of test) a (expr_of y) (typed (expr_of z) (type_of u.now))) }
 {
-    let b = integer(at, u)?;
+    let b = integer(at, u);
+    let ((test, (y, z)), b) = beside((test, (y, z)), b)?;
     let e = number_chosen(alloc, test, a, b, y, z)?;
     Ok(value_found(e, CoreType::Int(common(a, b))))
 }
@@ -71,9 +72,8 @@ fn chosen_voids(
 ) -> Result<Found, Fault>
     ensures { Follows found_of result (spec.chosen_voids at (expr_of test) (expr_of y) (typed (expr_of z) (type_of u.now))) }
 {
-    if !is_void(u) {
-        return bad_type(at);
-    }
+    let fits = is_void(u);
+    let (test, (y, z)) = fitting(at, fits, (test, (y, z)))?;
     let e = choice(alloc, test, y, z)?;
     Ok(value_found(e, CoreType::Void))
 }
@@ -87,8 +87,24 @@ fn pointer_chosen(
 ) -> Result<Found, NoMemory>
     ensures { IfOk result (λ r. found_of r ≡ convert.value_found (core.choice (expr_of test) (expr_of y) (expr_of z)) (core.pointer (type_of part))) }
 {
-    let e = choice(alloc, test, y, z)?;
+    let (part, e) = beside(part, choice(alloc, test, y, z))?;
     pointer_found(alloc, e, part)
+}
+
+fn chosen_pointers(
+    alloc: Global,
+    at: Pos,
+    test: CoreExpr,
+    t: &CoreType,
+    u: &CoreType,
+    y: CoreExpr,
+    z: CoreExpr,
+) -> Result<Found, Fault>
+    ensures { Follows found_of result (spec.chosen_pointers at (expr_of test) (typed (expr_of y) (type_of t.now)) (typed (expr_of z) (type_of u.now))) }
+{
+    let part = together(alloc, at, t, u);
+    let ((test, (y, z)), part) = beside((test, (y, z)), part)?;
+    Ok(pointer_chosen(alloc, test, y, z, part)?)
 }
 
 // Two voids, or two pointers of one type.
@@ -106,8 +122,7 @@ fn chosen_others(
     if is_void(t) {
         return chosen_voids(alloc, at, test, u, y, z);
     }
-    let part = together(alloc, at, t, u)?;
-    Ok(pointer_chosen(alloc, test, y, z, part)?)
+    chosen_pointers(alloc, at, test, t, u, y, z)
 }
 
 fn chosen_by(
@@ -131,7 +146,7 @@ fn chosen_by(
 pub fn chosen(alloc: Global, at: Pos, x: Typed, y: Typed, z: Typed) -> Result<Found, Fault>
     ensures { Follows found_of result (spec.chosen at (typed_of x) (typed_of y) (typed_of z)) }
 {
-    let test = scalar(at, x)?;
+    let ((y, z), test) = beside((y, z), scalar(at, x))?;
     let first = y.expr;
     let second = z.expr;
     chosen_by(alloc, at, test, &y.ty, &z.ty, first, second)

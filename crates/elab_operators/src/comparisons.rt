@@ -1,6 +1,6 @@
 //! Comparisons.
 
-ghost use Rattle.std.specs.Prelude.{◌≡◌, IfOk};
+ghost use Rattle.std.specs.Prelude.{◌≡◌, IfOk, None, Some};
 ghost use Rattle.nesc_core.specs.Plain as core;
 ghost use Rattle.nesc_core.specs.View.{expr_of, type_of};
 ghost use Rattle.elab_meaning.specs.Answers.{Follows, Gives};
@@ -11,19 +11,19 @@ ghost use Rattle.elab_meaning.specs.View.{found_of, sides_of, state_of};
 
 use elab_meaning::{Found, Sides, Work};
 use elab_values::{
-    bin, compared_numbers, compared_pointers, copied, int_of, integer, pointed, pointed_by_both,
-    value_found,
+    bin, boxed_pair, compared_numbers, compared_pointers, copied, int_of, integer, pointed,
+    pointed_by_both, value_found,
 };
 use nesc_core::{BinOp, CoreExpr, CoreType, Place};
-use nm_base::{Fault, IntType, NoMemory, Pos};
+use nm_base::{Fault, IntType, NoMemory, Pos, beside};
 use std::alloc::Global;
 
 /// What two pointers of one type point to.
 pub fn pointed_together(at: Pos, t: CoreType, u: CoreType) -> Result<CoreType, Fault>
     ensures { Follows type_of result (spec.pointed_together at (type_of t) (type_of u)) }
 {
-    let v = pointed(at, t)?;
-    let w = pointed(at, u)?;
+    let (u, v) = beside(u, pointed(at, t))?;
+    let (v, w) = beside(v, pointed(at, u))?;
     pointed_by_both(at, v, w)
 }
 
@@ -32,8 +32,40 @@ pub fn together(alloc: Global, at: Pos, t: &CoreType, u: &CoreType) -> Result<Co
     ensures { Follows type_of result (spec.pointed_together at (type_of t.now) (type_of u.now)) }
 {
     let first = copied(alloc, t)?;
-    let second = copied(alloc, u)?;
+    let (first, second) = beside(first, copied(alloc, u))?;
     pointed_together(at, first, second)
+}
+
+// A number of type a and a number.
+fn comparable_numbers(
+    alloc: Global,
+    at: Pos,
+    a: IntType,
+    u: &CoreType,
+    x: CoreExpr,
+    y: CoreExpr,
+) -> Result<Sides, Fault>
+    ensures { Follows sides_of result (spec.comparable_by at (typed (expr_of x) (core.int a)) (typed (expr_of y) (type_of u.now)) (Some a)) }
+{
+    let b = integer(at, u);
+    let ((x, y), b) = beside((x, y), b)?;
+    Ok(compared_numbers(alloc, a, b, x, y)?)
+}
+
+// Two pointers of one type.
+fn comparable_pointers(
+    alloc: Global,
+    at: Pos,
+    t: &CoreType,
+    u: &CoreType,
+    x: CoreExpr,
+    y: CoreExpr,
+) -> Result<Sides, Fault>
+    ensures { Follows sides_of result (spec.comparable_by at (typed (expr_of x) (type_of t.now)) (typed (expr_of y) (type_of u.now)) None) }
+{
+    let part = together(alloc, at, t, u);
+    let ((x, y), _part) = beside((x, y), part)?;
+    Ok(compared_pointers(alloc, x, y)?)
 }
 
 // Two numbers, or two pointers of one type.
@@ -48,14 +80,8 @@ fn comparable(
     ensures { Follows sides_of result (spec.comparable at (typed (expr_of x) (type_of t.now)) (typed (expr_of y) (type_of u.now))) }
 {
     match int_of(t) {
-        Some(a) => {
-            let b = integer(at, u)?;
-            Ok(compared_numbers(alloc, a, b, x, y)?)
-        }
-        None => {
-            together(alloc, at, t, u)?;
-            Ok(compared_pointers(alloc, x, y)?)
-        }
+        Some(a) => comparable_numbers(alloc, at, a, u, x, y),
+        None => comparable_pointers(alloc, at, t, u, x, y),
     }
 }
 
@@ -95,7 +121,8 @@ fn stored_in_local(alloc: Global, at: Pos, local: u32, e: CoreExpr) -> Result<Co
 pub fn in_turn(alloc: Global, a: CoreExpr, b: CoreExpr) -> Result<CoreExpr, NoMemory>
     ensures { IfOk result (λ r. expr_of r ≡ core.comma (expr_of a) (expr_of b)) }
 {
-    Ok(CoreExpr::Comma(Box::new(alloc, a)?, Box::new(alloc, b)?))
+    let (a, b) = boxed_pair(alloc, a, b)?;
+    Ok(CoreExpr::Comma(a, b))
 }
 
 /// An expression that is evaluated behind another, which goes to a local.
@@ -108,7 +135,7 @@ pub fn behind_kept(
 ) -> Result<CoreExpr, NoMemory>
     ensures { IfOk result (λ r. expr_of r ≡ places.behind_kept at local (expr_of kept) (expr_of next)) }
 {
-    let store = stored_in_local(alloc, at, local, kept)?;
+    let (next, store) = beside(next, stored_in_local(alloc, at, local, kept))?;
     in_turn(alloc, store, next)
 }
 
@@ -121,8 +148,9 @@ fn compared_behind(
 ) -> Result<CoreExpr, NoMemory>
     ensures { IfOk result (λ r. expr_of r ≡ places.behind_kept at local (expr_of c.first) (core.bin o c.at_type (expr_of c.second) (core.read (core.local local) at))) }
 {
-    let next = bin(alloc, o, c.at_type, c.second, read_local(local, at))?;
-    behind_kept(alloc, at, local, c.first, next)
+    let next = bin(alloc, o, c.at_type, c.second, read_local(local, at));
+    let (first, next) = beside(c.first, next)?;
+    behind_kept(alloc, at, local, first, next)
 }
 
 /// A comparison whose second side stands first, while the first value waits in a local.
@@ -139,7 +167,8 @@ pub fn exchanged(
     ensures { Gives found_of result (state_of work.new) (places.exchanged o at (typed (expr_of x) (type_of t.now)) (typed (expr_of y) (type_of u.now)) (state_of work.old)) }
 {
     let c = comparable(alloc, at, t, u, x, y)?;
-    let first = work.fresh(CoreType::Int(c.at_type))?;
+    let first = work.fresh(CoreType::Int(c.at_type));
+    let (c, first) = beside(c, first)?;
     let e = compared_behind(alloc, o, at, first, c)?;
     Ok(value_found(e, CoreType::Int(IntType::I16)))
 }

@@ -1,6 +1,6 @@
 //! Elements of arrays and of what pointers point to.
 
-ghost use Rattle.std.specs.Prelude.{◌≡◌, IfOk, map};
+ghost use Rattle.std.specs.Prelude.{◌≡◌, ◌∷◌, IfOk, map};
 ghost use Rattle.nesc_core.specs.Plain as core;
 ghost use Rattle.nesc_core.specs.View.{expr_of, place_of, type_of};
 ghost use Rattle.elab_meaning.specs.Answers.{Follows};
@@ -12,9 +12,9 @@ ghost use Rattle.elab_meaning.specs.View.{found_of, struct_of, typed_of};
 use crate::pointers::{moved_stride, offset_by};
 use elab_meaning::{Found, Stride, Struct, Typed};
 use elab_places::behind;
-use elab_values::{bad_type, integer};
+use elab_values::{bad_type, boxed_pair, integer};
 use nesc_core::{CoreExpr, CoreType, Place};
-use nm_base::{Fault, IntType, NoMemory, Pos};
+use nm_base::{Fault, IntType, NoMemory, Pos, beside};
 use std::alloc::Global;
 use std::collections::VecDeque;
 
@@ -22,8 +22,9 @@ use std::collections::VecDeque;
 fn behind_offset(alloc: Global, p: CoreExpr, i: CoreExpr, over: Stride) -> Result<Found, NoMemory>
     ensures { IfOk result (λ r. found_of r ≡ spec.behind (core.offset (expr_of p) (expr_of i) over.bytes) (type_of over.part)) }
 {
-    let e = offset_by(alloc, p, i, over.bytes)?;
-    behind(alloc, e, over.part)
+    let e = offset_by(alloc, p, i, over.bytes);
+    let (part, e) = beside(over.part, e)?;
+    behind(alloc, e, part)
 }
 
 // An element of what a pointer points to.
@@ -38,8 +39,25 @@ fn element_behind(
 ) -> Result<Found, Fault>
     ensures { Follows found_of result (spec.element_behind (map struct_of structs.now) at (typed (expr_of v) (type_of t.now)) (typed (expr_of i) (type_of u.now))) }
 {
-    let over = moved_stride(alloc, structs, at, t, u)?;
+    let over = moved_stride(alloc, structs, at, t, u);
+    let ((v, i), over) = beside((v, i), over)?;
     Ok(behind_offset(alloc, v, i, over)?)
+}
+
+fn indexed_place(alloc: Global, p: Place, i: CoreExpr) -> Result<Place, NoMemory>
+    ensures { IfOk result (λ r. place_of r ≡ core.index (place_of p) (expr_of i)) }
+{
+    let (p, i) = boxed_pair(alloc, p, i)?;
+    Ok(Place::Index(p, i))
+}
+
+// The types of the indexes with one more, the last first.
+fn with_index(b: IntType, indexes: VecDeque<IntType>) -> Result<VecDeque<IntType>, NoMemory>
+    ensures { IfOk result (λ types. types.items ≡ b ∷ indexes.items) }
+{
+    let mut types = indexes;
+    types.push_front(b)?;
+    Ok(types)
 }
 
 // An element of an array, with the type of its index.
@@ -55,9 +73,10 @@ fn element_of(
 ) -> Result<Found, Fault>
     ensures { Follows found_of result (spec.element_of at (place_of p) indexes.items (type_of part) is_const (typed (expr_of i) (type_of u.now))) }
 {
-    let mut types = indexes;
-    types.push_front(integer(at, u)?)?;
-    let place = Place::Index(Box::new(alloc, p)?, Box::new(alloc, i)?);
+    let b = integer(at, u);
+    let ((part, (p, i)), b) = beside((part, (p, i)), b)?;
+    let (part, place) = beside(part, indexed_place(alloc, p, i))?;
+    let ((place, part), types) = beside((place, part), with_index(b, indexes))?;
     Ok(Found::Place(place, types, part, is_const))
 }
 

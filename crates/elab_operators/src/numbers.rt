@@ -8,10 +8,10 @@ ghost use Rattle.elab_meaning.specs.Operators as spec;
 ghost use Rattle.elab_meaning.specs.View.{found_of};
 
 use elab_meaning::Found;
-use elab_values::{bin, integers, promoted_value, to_int, value_found};
+use elab_values::{bin, compared_numbers, integers, promoted_value, value_found};
 use nesc_core::{BinOp, CoreExpr, CoreType};
 use nesc_types::{common, promoted};
-use nm_base::{Fault, IntType, NoMemory, Pos};
+use nm_base::{Fault, IntType, NoMemory, Pos, beside};
 use std::alloc::Global;
 
 // Two numbers at their common type.
@@ -25,10 +25,8 @@ fn at_common(
 ) -> Result<CoreExpr, NoMemory>
     ensures { IfOk result (λ r. expr_of r ≡ spec.at_common o a b (expr_of x) (expr_of y)) }
 {
-    let t = common(a, b);
-    let first = to_int(alloc, t, a, x)?;
-    let second = to_int(alloc, t, b, y)?;
-    bin(alloc, o, t, first, second)
+    let sides = compared_numbers(alloc, a, b, x, y)?;
+    bin(alloc, o, sides.at_type, sides.first, sides.second)
 }
 
 /// An operator between two numbers at their common type.
@@ -43,7 +41,8 @@ pub fn arithmetic(
 ) -> Result<Found, Fault>
     ensures { Follows found_of result (spec.arithmetic o at (typed (expr_of x) (type_of t.now)) (typed (expr_of y) (type_of u.now))) }
 {
-    let (a, b) = integers(at, t, u)?;
+    let types = integers(at, t, u);
+    let ((x, y), (a, b)) = beside((x, y), types)?;
     let e = at_common(alloc, o, a, b, x, y)?;
     Ok(value_found(e, CoreType::Int(common(a, b))))
 }
@@ -59,8 +58,8 @@ fn at_promoted(
 ) -> Result<CoreExpr, NoMemory>
     ensures { IfOk result (λ r. expr_of r ≡ spec.at_promoted o a b (expr_of x) (expr_of y)) }
 {
-    let first = promoted_value(alloc, a, x)?;
-    let second = promoted_value(alloc, b, y)?;
+    let (y, first) = beside(y, promoted_value(alloc, a, x))?;
+    let (first, second) = beside(first, promoted_value(alloc, b, y))?;
     bin(alloc, o, promoted(a), first, second)
 }
 
@@ -76,7 +75,8 @@ pub fn shifted(
 ) -> Result<Found, Fault>
     ensures { Follows found_of result (spec.shifted o at (typed (expr_of x) (type_of t.now)) (typed (expr_of y) (type_of u.now))) }
 {
-    let (a, b) = integers(at, t, u)?;
+    let types = integers(at, t, u);
+    let ((x, y), (a, b)) = beside((x, y), types)?;
     let e = at_promoted(alloc, o, a, b, x, y)?;
     Ok(value_found(e, CoreType::Int(promoted(a))))
 }

@@ -14,34 +14,36 @@ ghost use Rattle.elab_meaning.specs.View.{found_of, stride_of, struct_of};
 use crate::numbers::arithmetic;
 use elab_meaning::{Found, Stride, Struct};
 use elab_values::{
-    copied, int_of, integer, negated, offset, pointed, pointed_by_both, size_behind, stride,
-    value_found,
+    boxed_pair, copied, int_of, integer, negated, offset, pointed, pointed_by_both, size_behind,
+    stride, value_found,
 };
 use nesc_core::{BinOp, CoreExpr, CoreType};
-use nm_base::{Fault, IntType, NoMemory, Pos};
+use nm_base::{Fault, IntType, NoMemory, Pos, beside};
 use std::alloc::Global;
 
 /// A pointer moved by a number of elements of so many bytes.
 pub fn offset_by(alloc: Global, p: CoreExpr, i: CoreExpr, bytes: u32) -> Result<CoreExpr, NoMemory>
     ensures { IfOk result (λ r. expr_of r ≡ core.offset (expr_of p) (expr_of i) bytes) }
 {
-    Ok(CoreExpr::Offset(Box::new(alloc, p)?, Box::new(alloc, i)?, bytes))
+    let (p, i) = boxed_pair(alloc, p, i)?;
+    Ok(CoreExpr::Offset(p, i, bytes))
 }
 
 /// A value that is a pointer to the type.
 pub fn pointer_found(alloc: Global, e: CoreExpr, part: CoreType) -> Result<Found, NoMemory>
     ensures { IfOk result (λ r. found_of r ≡ a_value_found (expr_of e) (core.pointer (type_of part))) }
 {
-    let t = CoreType::Pointer(Box::new(alloc, part)?);
-    Ok(value_found(e, t))
+    let (e, part) = beside(e, Box::new(alloc, part))?;
+    Ok(value_found(e, CoreType::Pointer(part)))
 }
 
 // A pointer moved by a number of what it moves over.
 fn moved_over(alloc: Global, p: CoreExpr, i: CoreExpr, over: Stride) -> Result<Found, NoMemory>
     ensures { IfOk result (λ r. found_of r ≡ a_value_found (core.offset (expr_of p) (expr_of i) over.bytes) (core.pointer (type_of over.part))) }
 {
-    let e = offset_by(alloc, p, i, over.bytes)?;
-    pointer_found(alloc, e, over.part)
+    let e = offset_by(alloc, p, i, over.bytes);
+    let (part, e) = beside(over.part, e)?;
+    pointer_found(alloc, e, part)
 }
 
 /// What a pointer of the type moves over.
@@ -82,7 +84,8 @@ pub fn moved(
 ) -> Result<Found, Fault>
     ensures { Follows found_of result (spec.moved (map struct_of structs.now) at (typed (expr_of x) (type_of t.now)) (typed (expr_of y) (type_of u.now))) }
 {
-    let over = moved_stride(alloc, structs, at, t, u)?;
+    let over = moved_stride(alloc, structs, at, t, u);
+    let ((x, y), over) = beside((x, y), over)?;
     Ok(moved_over(alloc, x, y, over)?)
 }
 
@@ -98,8 +101,9 @@ fn moved_back(
 ) -> Result<Found, Fault>
     ensures { Follows found_of result (spec.moved_back (map struct_of structs.now) at (type_of t) b (expr_of x) (expr_of y)) }
 {
-    let count = negated(alloc, b, y)?;
-    let e = offset(alloc, structs, at, x, count, &t)?;
+    let ((t, x), count) = beside((t, x), negated(alloc, b, y))?;
+    let e = offset(alloc, structs, at, x, count, &t);
+    let (t, e) = beside(t, e)?;
     Ok(pointer_found(alloc, e, t)?)
 }
 
@@ -107,7 +111,7 @@ fn moved_back(
 fn apart(structs: &[Struct], at: Pos, t: CoreType, u: CoreType) -> Result<u32, Fault>
     ensures { Follows (λ n. n) result (spec.apart (map struct_of structs.now) at (type_of t) (type_of u)) }
 {
-    let v = pointed(at, u)?;
+    let (t, v) = beside(t, pointed(at, u))?;
     let w = pointed_by_both(at, t, v)?;
     size_behind(structs, at, &w)
 }
@@ -121,15 +125,15 @@ fn apart_from(
 ) -> Result<u32, Fault>
     ensures { Follows (λ n. n) result (spec.apart (map struct_of structs.now) at (type_of t) (type_of u.now)) }
 {
-    let second = copied(alloc, u)?;
+    let (t, second) = beside(t, copied(alloc, u))?;
     apart(structs, at, t, second)
 }
 
 fn distance_found(alloc: Global, x: CoreExpr, y: CoreExpr, bytes: u32) -> Result<Found, NoMemory>
     ensures { IfOk result (λ r. found_of r ≡ a_value_found (core.distance (expr_of x) (expr_of y) bytes) (core.int I16)) }
 {
-    let e = CoreExpr::Distance(Box::new(alloc, x)?, Box::new(alloc, y)?, bytes);
-    Ok(value_found(e, CoreType::Int(IntType::I16)))
+    let (x, y) = boxed_pair(alloc, x, y)?;
+    Ok(value_found(CoreExpr::Distance(x, y, bytes), CoreType::Int(IntType::I16)))
 }
 
 // A pointer to t minus a pointer.
@@ -144,7 +148,8 @@ fn distance(
 ) -> Result<Found, Fault>
     ensures { Follows found_of result (spec.distance (map struct_of structs.now) at (type_of t) (expr_of x) (typed (expr_of y) (type_of u.now))) }
 {
-    let n = apart_from(alloc, structs, at, t, u)?;
+    let n = apart_from(alloc, structs, at, t, u);
+    let ((x, y), n) = beside((x, y), n)?;
     Ok(distance_found(alloc, x, y, n)?)
 }
 
@@ -166,7 +171,8 @@ fn subtracted_from_pointer(
 ) -> Result<Found, Fault>
     ensures { Follows found_of result (spec.subtracted_by (map struct_of structs.now) at (typed (expr_of x) (type_of t.now)) (typed (expr_of y) (type_of u.now)) None) }
 {
-    let part = pointed_copy(alloc, at, t)?;
+    let part = pointed_copy(alloc, at, t);
+    let ((x, y), part) = beside((x, y), part)?;
     match int_of(u) {
         Some(b) => moved_back(alloc, structs, at, part, b, x, y),
         None => distance(alloc, structs, at, part, u, x, y),

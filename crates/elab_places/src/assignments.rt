@@ -7,24 +7,25 @@ ghost use Rattle.elab_meaning.specs.Answers.{Follows};
 ghost use Rattle.elab_meaning.specs.Operators as spec;
 ghost use Rattle.elab_meaning.specs.View.{found_of, struct_of, target_of, typed_of};
 
-use elab_meaning::{Found, Struct, Target, Typed};
+use elab_meaning::{Found, Stride, Struct, Target, Typed};
 use elab_values::{
-    bad_type, bin, converted, int_of, integer, integers, promoted_value, stride, to_int,
-    value_found,
+    bad_type, bin, converted, int_of, integer, integers, number, promoted_value, stride, to_int,
+    value_found, without_type,
 };
 use nesc_core::{BinOp, CoreExpr, CoreType, Place};
 use nesc_tree::{InOp, PostOp};
 use nesc_types::{common, promoted};
-use nm_base::{Fault, IntType, NoMemory, Pos};
+use nm_base::{Fault, IntType, NoMemory, Pos, beside};
 use std::alloc::Global;
 
 /// `=`, of a number or a pointer.
 pub fn assigned(alloc: Global, at: Pos, at_value: Pos, p: Target, v: Typed) -> Result<Found, Fault>
     ensures { Follows found_of result (spec.assigned at at_value (target_of p) (typed_of v)) }
 {
-    let e = converted(alloc, at_value, &p.ty, v)?;
-    let stored = CoreExpr::Assign(p.place, Box::new(alloc, e)?, at);
-    Ok(value_found(stored, p.ty))
+    let e = converted(alloc, at_value, &p.ty, v);
+    let (p, e) = beside(p, e)?;
+    let (p, e) = beside(p, Box::new(alloc, e))?;
+    Ok(value_found(CoreExpr::Assign(p.place, e, at), p.ty))
 }
 
 // How many bytes a pointer moves for a count.
@@ -48,8 +49,8 @@ fn update(
 ) -> Result<Found, Fault>
     ensures { Follows found_of result (spec.update_found at gives_old o t (place_of p) (expr_of e) (type_of ty)) }
 {
-    let updated = CoreExpr::Update(p, o, t, Box::new(alloc, e)?, gives_old, at);
-    Ok(value_found(updated, ty))
+    let ((p, ty), e) = beside((p, ty), Box::new(alloc, e))?;
+    Ok(value_found(CoreExpr::Update(p, o, t, e, gives_old, at), ty))
 }
 
 fn updated_at_common(
@@ -63,9 +64,9 @@ fn updated_at_common(
 ) -> Result<Found, Fault>
     ensures { Follows found_of result (spec.updated_at_common o at gives_old (place_of p) (typed_of v) a) }
 {
-    let b = integer(at, &v.ty)?;
+    let (p, (e, b)) = beside(p, number(at, v))?;
     let t = common(a, b);
-    let e = to_int(alloc, t, b, v.expr)?;
+    let (p, e) = beside(p, to_int(alloc, t, b, e))?;
     update(alloc, at, gives_old, o, t, p, e, CoreType::Int(a))
 }
 
@@ -83,6 +84,12 @@ fn number_updated(
     updated_at_common(alloc, o, at, gives_old, p.place, v, a)
 }
 
+fn place_alone(p: Target) -> Place
+    ensures { place_of result ≡ place_of p.place }
+{
+    p.place
+}
+
 // At the promoted left type.
 fn shift_updated(
     alloc: Global,
@@ -94,18 +101,25 @@ fn shift_updated(
 ) -> Result<Found, Fault>
     ensures { Follows found_of result (spec.shift_updated o at gives_old (target_of p) (typed_of v)) }
 {
-    let (a, b) = integers(at, &p.ty, &v.ty)?;
-    let e = promoted_value(alloc, b, v.expr)?;
-    update(
-        alloc,
-        at,
-        gives_old,
-        o,
-        promoted(a),
-        p.place,
-        e,
-        CoreType::Int(a),
-    )
+    let types = integers(at, &p.ty, &v.ty);
+    let ((p, e), (a, b)) = beside((place_alone(p), without_type(v)), types)?;
+    let (p, e) = beside(p, promoted_value(alloc, b, e))?;
+    update(alloc, at, gives_old, o, promoted(a), p, e, CoreType::Int(a))
+}
+
+// How many bytes a pointer moves for a count, and the pointer's type.
+fn pointer_step(
+    alloc: Global,
+    b: IntType,
+    count: CoreExpr,
+    over: Stride,
+) -> Result<(CoreExpr, CoreType), NoMemory>
+    ensures { IfOk result (λ x. (expr_of x.0 ≡ spec.bytes_of b (expr_of count) over.bytes) × (type_of x.1 ≡ core.pointer (type_of over.part))) }
+{
+    let bytes = over.bytes;
+    let (part, e) = beside(over.part, bytes_of(alloc, b, count, bytes))?;
+    let (e, part) = beside(e, Box::new(alloc, part))?;
+    Ok((e, CoreType::Pointer(part)))
 }
 
 // A pointer, as a number.
@@ -120,11 +134,12 @@ fn pointer_updated(
 ) -> Result<Found, Fault>
     ensures { Follows found_of result (spec.step_updated_by (map struct_of structs.now) o at gives_old (target_of p) (typed_of v) None) }
 {
-    let b = integer(at, &v.ty)?;
-    let over = stride(structs, at, p.ty)?;
-    let e = bytes_of(alloc, b, v.expr, over.bytes)?;
-    let ty = CoreType::Pointer(Box::new(alloc, over.part)?);
-    update(alloc, at, gives_old, o, IntType::U16, p.place, e, ty)
+    let (p, (e, b)) = beside(p, number(at, v))?;
+    let place = p.place;
+    let over = stride(structs, at, p.ty);
+    let ((place, e), over) = beside((place, e), over)?;
+    let (place, (e, ty)) = beside(place, pointer_step(alloc, b, e, over))?;
+    update(alloc, at, gives_old, o, IntType::U16, place, e, ty)
 }
 
 /// `+` and `-`, where the place may hold a pointer.
@@ -234,6 +249,7 @@ pub fn stepped(
 pub fn cast_to(alloc: Global, at_value: Pos, t: CoreType, v: Typed) -> Result<Found, Fault>
     ensures { Follows found_of result (spec.cast_to at_value (type_of t) (typed_of v)) }
 {
-    let e = converted(alloc, at_value, &t, v)?;
+    let e = converted(alloc, at_value, &t, v);
+    let (t, e) = beside(t, e)?;
     Ok(value_found(e, t))
 }

@@ -17,7 +17,7 @@ use Rattle.nesc_tree.specs.declared.tree.Expr as rust_expr
 use Rattle.nesc_tree.specs.View.{expr_of}
 use Rattle.nesc_types.specs.Rule.{Rule}
 use Rattle.elab_meaning.specs.declared.work.Work.{Work}
-use Rattle.elab_meaning.specs.Answers.{Gives}
+use Rattle.elab_meaning.specs.Answers.{FaultIs, Gives}
 use Rattle.elab_meaning.specs.Elab.{State}
 use Rattle.elab_meaning.specs.View.{env_of, state_of}
 use Rattle.elab_forms.specs.declared.forms.Told.{Told}
@@ -34,6 +34,10 @@ use Rattle.body_meaning.specs.Stmts.{Labelled}
 use Rattle.elab_stmts.specs.Walk.{IsAdded, IsLabelled, IsStmt, block_cases_at, case_at, cases_at, default_at, for_at, labelled_at, plain_body_at, plain_item_at, stmt_at, switch_at}
 use Rattle.elab_stmts.specs.Parts.{declared, eval_of}
 use Rattle.elab_stmts.proofs.Cuts.{cases_by, cases_is, for_is, labelled_by, labelled_is, switch_is}
+
+-- a call that was refused
+pub refused_by : {X Y : Type 0} (view : X → Y) (r : Result X Fault) (e : Fault) (st : State) (outcome : Rule (Y × State)) → r ≡ Err e → Gives view r st outcome → FaultIs e outcome
+refused_by view r e st outcome is g = subst (λ q. Gives view q st outcome) is g
 
 pub by_shape : (t : Told) (due : Ty) (w w1 : Work) (r : Result core_stmt.CoreStmt Fault) (whole : rust_stmt.Stmt) (y : Stmt) → stmt_of whole ≡ y
     → Gives core_stmt_of r (state_of w1) (spec.stmt (env_of t.env) t.values due y (state_of w)) → IsStmt r w1 (stmt_at t due (stmt_of whole) w)

@@ -18,7 +18,7 @@ use elab_values::{bad_type, converted, integer, is_void, promoted_value, scalar}
 use nesc_core::{CoreExpr, CoreStmt, CoreType};
 use nesc_tree::{Decl, Expr, ForStart};
 use nesc_types::{pos_of, promoted};
-use nm_base::{Fault, IntType, Pos, wrap};
+use nm_base::{Fault, IntType, Pos, beside, wrap};
 use std::alloc::Global;
 
 /// A test: a number or a pointer.
@@ -98,8 +98,7 @@ pub(crate) fn turn_of(
     ensures { Gives (λ t. (core_expr_of t.0, maybe_expr_of t.1)) result (state_of work.new) (parts.turn_of (env_of told.now.env) told.now.values (maybe_of test.now) (maybe_of step.now) (state_of work.old)) }
 {
     let t = tested_or_one(alloc, told, work, test)?;
-    let next = step_of(alloc, told, work, step)?;
-    Ok((t, next))
+    beside(t, step_of(alloc, told, work, step))
 }
 
 /// What stands before a loop.
@@ -191,7 +190,8 @@ pub(crate) fn switched(
     ensures { Gives (λ v. (core_expr_of v.0, v.1)) result (state_of work.new) (parts.switched (env_of told.now.env) told.now.values (expr_of e.now) (state_of work.old)) }
 {
     let v = value(alloc, told, work, e)?;
-    let t = integer(pos_of(e), &v.ty)?;
+    let t = integer(pos_of(e), &v.ty);
+    let (v, t) = beside(v, t)?;
     let x = promoted_value(alloc, t, v.expr)?;
     Ok((x, promoted(t)))
 }

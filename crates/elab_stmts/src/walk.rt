@@ -20,7 +20,7 @@ use elab_pieces::{
 };
 use nesc_core::{CoreExpr, CoreStmt, CoreType};
 use nesc_tree::{Expr, ForStart, Stmt};
-use nm_base::{Boxed, Fault, List, Pos};
+use nm_base::{Boxed, Fault, List, Pos, beside};
 use std::alloc::Global;
 
 // A statement in a function with this result.
@@ -148,7 +148,7 @@ fn branch_on(
     ensures { IsStmt result work.new (stmt_at told.now (type_of due.now) (tree.branch (expr_of e.now) (stmt_of x.now) (maybe_stmt (option_map stmt_of other.now)) nowhere) work.old) }
 {
     let test = tested(alloc, told, work, e)?;
-    let code = stmt(alloc, told, work, x, due)?;
+    let (test, code) = beside(test, stmt(alloc, told, work, x, due))?;
     branch_with(alloc, told, work, other, due, test, code)
 }
 
@@ -166,7 +166,7 @@ fn branch_with(
 ) -> Result<CoreStmt, Fault>
     ensures { IsStmt result work.new (branch_with_at told.now (type_of due.now) (core_expr_of test) (core_stmt_of code) (maybe_stmt (option_map stmt_of other.now)) work.old) }
 {
-    let last = otherwise(alloc, told, work, other, due)?;
+    let ((test, code), last) = beside((test, code), otherwise(alloc, told, work, other, due))?;
     Ok(branch(alloc, test, code, last)?)
 }
 
@@ -202,7 +202,7 @@ fn while_loop(
     ensures { IsStmt result work.new (stmt_at told.now (type_of due.now) (tree.while (expr_of e.now) (stmt_of x.now) nowhere) work.old) }
 {
     let test = tested(alloc, told, work, e)?;
-    let code = stmt(alloc, told, work, x, due)?;
+    let (test, code) = beside(test, stmt(alloc, told, work, x, due))?;
     Ok(looped(alloc, true, test, None, code)?)
 }
 
@@ -220,7 +220,7 @@ fn do_loop(
     ensures { IsStmt result work.new (stmt_at told.now (type_of due.now) (tree.do_while (stmt_of x.now) (expr_of e.now) nowhere) work.old) }
 {
     let code = stmt(alloc, told, work, x, due)?;
-    let test = tested(alloc, told, work, e)?;
+    let (code, test) = beside(code, tested(alloc, told, work, e))?;
     Ok(looped(alloc, false, test, None, code)?)
 }
 
@@ -263,7 +263,7 @@ fn for_within(
     ensures { IsStmt result work.new (for_within_at told.now (type_of due.now) (start_of start.now) (maybe_of test.now) (maybe_of step.now) (stmt_of x.now) at work.old) }
 {
     let before = started(alloc, told, work, start, at)?;
-    let code = turning(alloc, told, work, test, step, x, due)?;
+    let (before, code) = beside(before, turning(alloc, told, work, test, step, x, due))?;
     Ok(behind(before, code)?)
 }
 
@@ -282,7 +282,7 @@ fn turning(
     ensures { IsStmt result work.new (turning_at told.now (type_of due.now) (maybe_of test.now) (maybe_of step.now) (stmt_of x.now) work.old) }
 {
     let turn = turn_of(alloc, told, work, test, step)?;
-    let code = stmt(alloc, told, work, x, due)?;
+    let (turn, code) = beside(turn, stmt(alloc, told, work, x, due))?;
     Ok(looped(alloc, true, turn.0, turn.1, code)?)
 }
 
@@ -300,6 +300,7 @@ fn switch(
     ensures { IsStmt result work.new (switch_at told.now (type_of due.now) (expr_of e.now) (stmt_of x.now) work.old) }
 {
     let v = switched(alloc, told, work, e)?;
-    let l = cases(alloc, told, work, x, v.1, due)?;
-    Ok(switch_on(v.0, l))
+    let (v, t) = v;
+    let (v, l) = beside(v, cases(alloc, told, work, x, t, due))?;
+    Ok(switch_on(v, l))
 }

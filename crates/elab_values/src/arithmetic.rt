@@ -7,7 +7,8 @@ ghost use Rattle.elab_meaning.specs.Answers.{Follows};
 ghost use Rattle.elab_meaning.specs.Operators as spec;
 ghost use Rattle.elab_meaning.specs.View.{found_of, typed_of};
 
-use crate::found::{int_of, integer, scalar, to_int, value_found};
+use crate::carried::boxed_pair;
+use crate::found::{int_of, number, scalar, to_int, value_found};
 use elab_meaning::{Found, Typed};
 use nesc_core::{BinOp, CoreExpr, CoreType, UnOp};
 use nesc_types::promoted;
@@ -24,7 +25,8 @@ pub fn bin(
 ) -> Result<CoreExpr, NoMemory>
     ensures { IfOk result (λ r. expr_of r ≡ core.bin o t (expr_of a) (expr_of b)) }
 {
-    Ok(CoreExpr::Bin(o, t, Box::new(alloc, a)?, Box::new(alloc, b)?))
+    let (a, b) = boxed_pair(alloc, a, b)?;
+    Ok(CoreExpr::Bin(o, t, a, b))
 }
 
 fn un(alloc: Global, o: UnOp, t: IntType, e: CoreExpr) -> Result<CoreExpr, NoMemory>
@@ -44,8 +46,8 @@ pub fn promoted_value(alloc: Global, t: IntType, e: CoreExpr) -> Result<CoreExpr
 pub fn plus(alloc: Global, at: Pos, v: Typed) -> Result<Found, Fault>
     ensures { Follows found_of result (spec.plus at (typed_of v)) }
 {
-    let t = integer(at, &v.ty)?;
-    let e = promoted_value(alloc, t, v.expr)?;
+    let (e, t) = number(at, v)?;
+    let e = promoted_value(alloc, t, e)?;
     Ok(value_found(e, CoreType::Int(promoted(t))))
 }
 
@@ -61,8 +63,8 @@ pub fn negated(alloc: Global, t: IntType, e: CoreExpr) -> Result<CoreExpr, NoMem
 pub fn minus(alloc: Global, at: Pos, v: Typed) -> Result<Found, Fault>
     ensures { Follows found_of result (spec.minus at (typed_of v)) }
 {
-    let t = integer(at, &v.ty)?;
-    let e = negated(alloc, t, v.expr)?;
+    let (e, t) = number(at, v)?;
+    let e = negated(alloc, t, e)?;
     Ok(value_found(e, CoreType::Int(promoted(t))))
 }
 
@@ -70,8 +72,8 @@ pub fn minus(alloc: Global, at: Pos, v: Typed) -> Result<Found, Fault>
 pub fn complement(alloc: Global, at: Pos, v: Typed) -> Result<Found, Fault>
     ensures { Follows found_of result (spec.complement at (typed_of v)) }
 {
-    let t = integer(at, &v.ty)?;
-    let operand = promoted_value(alloc, t, v.expr)?;
+    let (e, t) = number(at, v)?;
+    let operand = promoted_value(alloc, t, e)?;
     let e = un(alloc, UnOp::Not, promoted(t), operand)?;
     Ok(value_found(e, CoreType::Int(promoted(t))))
 }

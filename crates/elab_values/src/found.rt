@@ -8,9 +8,10 @@ ghost use Rattle.elab_meaning.specs.Convert as spec;
 ghost use Rattle.elab_meaning.specs.Convert.{a_value};
 ghost use Rattle.elab_meaning.specs.View.{found_of, typed_of, target_of};
 
+use crate::carried::{fitting, without_type};
 use elab_meaning::{Found, Target, Typed};
 use nesc_core::{CoreExpr, CoreType, is_same_type};
-use nm_base::{Fault, IntType, NoMemory, Pos, Refusal};
+use nm_base::{Fault, IntType, NoMemory, Pos, Refusal, beside};
 use std::alloc::Global;
 
 /// The refusal of what does not fit.
@@ -113,6 +114,15 @@ pub fn integer(at: Pos, t: &CoreType) -> Result<IntType, Fault>
     }
 }
 
+/// A number and its type.
+pub fn number(at: Pos, v: Typed) -> Result<(CoreExpr, IntType), Fault>
+    ensures typed { Follows (λ x. x.1) result (spec.integer at (type_of v.ty)) }
+    ensures kept { IfOk result (λ x. expr_of x.0 ≡ expr_of v.expr) }
+{
+    let t = integer(at, &v.ty);
+    beside(without_type(v), t)
+}
+
 /// The types of two numbers.
 pub fn integers(at: Pos, t: &CoreType, u: &CoreType) -> Result<(IntType, IntType), Fault>
     ensures { Follows (λ ts. ts) result (spec.integers at (type_of t.now) (type_of u.now)) }
@@ -173,11 +183,8 @@ fn is_scalar(t: &CoreType) -> bool
 pub fn scalar(at: Pos, v: Typed) -> Result<CoreExpr, Fault>
     ensures { Follows expr_of result (spec.scalar at (typed_of v)) }
 {
-    if is_scalar(&v.ty) {
-        Ok(v.expr)
-    } else {
-        bad_type(at)
-    }
+    let fits = is_scalar(&v.ty);
+    fitting(at, fits, without_type(v))
 }
 
 // ---- conversions
@@ -240,8 +247,9 @@ fn by_conversion(
 pub fn converted(alloc: Global, at: Pos, to: &CoreType, v: Typed) -> Result<CoreExpr, Fault>
     ensures { Follows expr_of result (spec.converted at (type_of to.now) (typed_of v)) }
 {
-    let c = conversion(at, to, &v.ty)?;
-    Ok(by_conversion(alloc, c, v.expr)?)
+    let c = conversion(at, to, &v.ty);
+    let (e, c) = beside(without_type(v), c)?;
+    Ok(by_conversion(alloc, c, e)?)
 }
 
 // ---- places

@@ -7,12 +7,13 @@ ghost use Rattle.elab_meaning.specs.Operators as spec;
 ghost use Rattle.elab_meaning.specs.View.{sides_of, struct_of};
 
 use crate::arithmetic::address;
+use crate::carried::boxed_pair;
 use crate::found::to_int;
 use crate::sizes::size_behind;
 use elab_meaning::{Sides, Struct};
 use nesc_core::{CoreExpr, CoreType};
 use nesc_types::common;
-use nm_base::{Fault, IntType, NoMemory, Pos};
+use nm_base::{Fault, IntType, NoMemory, Pos, beside};
 use std::alloc::Global;
 
 /// A pointer moved by a number of elements.
@@ -26,8 +27,10 @@ pub fn offset(
 ) -> Result<CoreExpr, Fault>
     ensures { Follows expr_of result (spec.offset (map struct_of structs.now) at (expr_of p) (expr_of i) (type_of t.now)) }
 {
-    let n = size_behind(structs, at, t)?;
-    Ok(CoreExpr::Offset(Box::new(alloc, p)?, Box::new(alloc, i)?, n))
+    let n = size_behind(structs, at, t);
+    let ((p, i), n) = beside((p, i), n)?;
+    let (p, i) = boxed_pair(alloc, p, i)?;
+    Ok(CoreExpr::Offset(p, i, n))
 }
 
 /// Two numbers at their common type.
@@ -41,8 +44,8 @@ pub fn compared_numbers(
     ensures { IfOk result (λ r. sides_of r ≡ spec.compared_numbers a b (expr_of x) (expr_of y)) }
 {
     let at_type = common(a, b);
-    let first = to_int(alloc, at_type, a, x)?;
-    let second = to_int(alloc, at_type, b, y)?;
+    let (y, first) = beside(y, to_int(alloc, at_type, a, x))?;
+    let (first, second) = beside(first, to_int(alloc, at_type, b, y))?;
     Ok(Sides {
         at_type,
         first,
@@ -54,8 +57,8 @@ pub fn compared_numbers(
 pub fn compared_pointers(alloc: Global, x: CoreExpr, y: CoreExpr) -> Result<Sides, NoMemory>
     ensures { IfOk result (λ r. sides_of r ≡ spec.compared_pointers (expr_of x) (expr_of y)) }
 {
-    let first = address(alloc, x)?;
-    let second = address(alloc, y)?;
+    let (y, first) = beside(y, address(alloc, x))?;
+    let (first, second) = beside(first, address(alloc, y))?;
     Ok(Sides {
         at_type: IntType::U16,
         first,

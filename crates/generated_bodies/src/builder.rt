@@ -2,7 +2,7 @@
 
 use crate::node::{ExprNode, Node, PlaceNode, StmtNode};
 use nesc_core::{CoreExpr, CoreStmt, CoreType, Place};
-use nm_base::{IntType, List, NoMemory, Pos};
+use nm_base::{IntType, List, NoMemory, Pos, beside};
 use std::alloc::Global;
 use std::mem;
 
@@ -74,7 +74,8 @@ impl Builder {
             PlaceNode::Byte => Ok(Place::Deref(self.boxed()?, CoreType::Int(IntType::U8))),
             PlaceNode::Index => {
                 let e = self.boxed()?;
-                Ok(Place::Index(self.boxed_place()?, e))
+                let (e, base) = beside(e, self.boxed_place())?;
+                Ok(Place::Index(base, e))
             }
             PlaceNode::Field(k) => Ok(Place::Field(self.boxed_place()?, k)),
         }
@@ -113,7 +114,7 @@ impl Builder {
     // An expression with two operands.
     fn of_two(&mut self, node: ExprNode) -> Result<CoreExpr, NoMemory> {
         let b = self.boxed()?;
-        let a = self.boxed()?;
+        let (b, a) = beside(b, self.boxed())?;
         Ok(match node {
             ExprNode::Bin(op, t) => CoreExpr::Bin(op, t, a, b),
             ExprNode::Offset => CoreExpr::Offset(a, b, 1),
@@ -126,8 +127,8 @@ impl Builder {
 
     fn cond(&mut self) -> Result<CoreExpr, NoMemory> {
         let c = self.boxed()?;
-        let b = self.boxed()?;
-        let a = self.boxed()?;
+        let (c, b) = beside(c, self.boxed())?;
+        let ((c, b), a) = beside((c, b), self.boxed())?;
         Ok(CoreExpr::Cond(a, b, c))
     }
 
@@ -137,7 +138,7 @@ impl Builder {
             StmtNode::Block(count) => Ok(CoreStmt::Block(self.list(count)?)),
             StmtNode::If => {
                 let b = self.boxed_stmt()?;
-                let a = self.boxed_stmt()?;
+                let (b, a) = beside(b, self.boxed_stmt())?;
                 Ok(CoreStmt::If(self.expr(), a, b))
             }
             StmtNode::Loop(first, has_step) => {

@@ -6,11 +6,52 @@ use crate::node::{ExprNode, StmtNode};
 use crate::sketch::{Sketch, TYPES};
 use crate::stmts::statements;
 use nesc_core::{BinOp, Body, CoreStmt, CoreType, Field, Object, Program, Structs};
-use nm_base::{IntType, List, Name, NoMemory};
+use nm_base::{IntType, List, Name, NoMemory, beside};
 use std::alloc::Global;
 
 /// What bodies of the chain add, which takes more than 16 bits.
 const ADDED: i64 = 70_000;
+
+/// A type of a variable.
+#[derive(Clone, Copy)]
+enum Kind {
+    Number(IntType),
+    Bytes(u32),
+    Pointer,
+    Struct,
+}
+
+/// The types of the program's variables, and where they lie: a number of each type, two bytes, a pointer and a struct.
+const OBJECTS: [(Kind, u16); 9] = [
+    (Kind::Number(IntType::U16), 0x1100),
+    (Kind::Bytes(2), 0x1102),
+    (Kind::Pointer, 0x1104),
+    (Kind::Struct, 0x1106),
+    (Kind::Number(IntType::U8), 0x110A),
+    (Kind::Number(IntType::U32), 0x110C),
+    (Kind::Number(IntType::I16), 0x1110),
+    (Kind::Number(IntType::I8), 0x1112),
+    (Kind::Number(IntType::I32), 0x1114),
+];
+
+fn type_of(alloc: Global, kind: Kind) -> Result<CoreType, NoMemory> {
+    match kind {
+        Kind::Number(t) => Ok(CoreType::Int(t)),
+        Kind::Bytes(count) => Ok(CoreType::Array(byte(alloc)?, count)),
+        Kind::Pointer => Ok(CoreType::Pointer(byte(alloc)?)),
+        Kind::Struct => Ok(CoreType::Struct(0)),
+    }
+}
+
+fn byte(alloc: Global) -> Result<Box<CoreType>, NoMemory> {
+    Ok(Box::new(alloc, CoreType::Int(IntType::U8))?)
+}
+
+// Adds what was found, or returns that there was no memory for it.
+fn add<T: Drop>(items: &mut Vec<T>, found: Result<T, NoMemory>) -> Result<(), NoMemory> {
+    items.push(found?)?;
+    Ok(())
+}
 
 fn body(
     alloc: Global,
@@ -19,7 +60,7 @@ fn body(
     locals: List<CoreType>,
     code: CoreStmt,
 ) -> Result<Body, NoMemory> {
-    let name = Name::new(alloc, b"f")?;
+    let ((gives, locals, code), name) = beside((gives, locals, code), Name::new(alloc, b"f"))?;
     Ok(Body {
         name,
         params,
@@ -78,17 +119,13 @@ fn local_types(alloc: Global) -> Result<List<CoreType>, NoMemory> {
     for t in TYPES {
         types.push(CoreType::Int(t))?;
     }
-    types.push(CoreType::Pointer(byte(alloc)?))?;
-    types.push(CoreType::Array(byte(alloc)?, 3))?;
-    types.push(CoreType::Struct(0))?;
+    for kind in [Kind::Pointer, Kind::Bytes(3), Kind::Struct] {
+        add(&mut types, type_of(alloc, kind))?;
+    }
     for _ in 0..=MOST_LOOPS {
         types.push(CoreType::Int(IntType::U16))?;
     }
     Ok(List::new(types))
-}
-
-fn byte(alloc: Global) -> Result<Box<CoreType>, NoMemory> {
-    Ok(Box::new(alloc, CoreType::Int(IntType::U8))?)
 }
 
 // The body that is compared.
@@ -100,8 +137,9 @@ fn compared(alloc: Global, seed: u64) -> Result<Body, NoMemory> {
     body(alloc, 0, CoreType::Void, locals, code)
 }
 
-fn object(alloc: Global, ty: CoreType, addr: u16) -> Result<Object, NoMemory> {
-    let name = Name::new(alloc, b"x")?;
+fn object(alloc: Global, kind: Kind, addr: u16) -> Result<Object, NoMemory> {
+    let ty = type_of(alloc, kind)?;
+    let (ty, name) = beside(ty, Name::new(alloc, b"x"))?;
     Ok(Object {
         name,
         ty,
@@ -111,18 +149,11 @@ fn object(alloc: Global, ty: CoreType, addr: u16) -> Result<Object, NoMemory> {
     })
 }
 
-// The variables of the program: a number of each type, two bytes, a pointer and a struct.
 fn objects(alloc: Global) -> Result<List<Object>, NoMemory> {
     let mut all = Vec::new(alloc);
-    all.push(object(alloc, CoreType::Int(IntType::U16), 0x1100)?)?;
-    all.push(object(alloc, CoreType::Array(byte(alloc)?, 2), 0x1102)?)?;
-    all.push(object(alloc, CoreType::Pointer(byte(alloc)?), 0x1104)?)?;
-    all.push(object(alloc, CoreType::Struct(0), 0x1106)?)?;
-    all.push(object(alloc, CoreType::Int(IntType::U8), 0x110A)?)?;
-    all.push(object(alloc, CoreType::Int(IntType::U32), 0x110C)?)?;
-    all.push(object(alloc, CoreType::Int(IntType::I16), 0x1110)?)?;
-    all.push(object(alloc, CoreType::Int(IntType::I8), 0x1112)?)?;
-    all.push(object(alloc, CoreType::Int(IntType::I32), 0x1114)?)?;
+    for (kind, addr) in OBJECTS {
+        add(&mut all, object(alloc, kind, addr))?;
+    }
     Ok(List::new(all))
 }
 

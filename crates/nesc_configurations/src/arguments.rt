@@ -11,7 +11,7 @@ use nesc_parse_decls::{added, no_list, single};
 use nesc_parse_exprs::{expr, type_form};
 use nesc_parse_types::{Found, Stop, begins_type, expect, is_comma};
 use nesc_tree::{GenericArg, Sort, TypeNames, ahead, level};
-use nm_base::{List, Token};
+use nm_base::{List, Token, beside};
 use std::alloc::Global;
 
 #[tactic(auto, unfolding(nesc_tree::specs::Reading::read))]
@@ -89,8 +89,8 @@ fn another_argument<'a>(
     requires room { 0 < spare }
     ensures { Gives names.now result (form_in spare (grammar.applied so_far parts.another_argument) names.now ts.now) }
 {
-    let (_, rest) = expect(names, Sort::Comma, ts)?;
-    let (next, rest) = argument(alloc, names, spare, rest)?;
+    let (so_far, (_, rest)) = beside(so_far, expect(names, Sort::Comma, ts))?;
+    let (so_far, (next, rest)) = beside(so_far, argument(alloc, names, spare, rest))?;
     Ok((added(so_far, next)?, rest))
 }
 
@@ -156,6 +156,6 @@ pub fn arguments<'a>(
 {
     let (_, rest) = expect(names, Sort::LParen, ts)?;
     let (list, rest) = maybe_arguments(alloc, names, spare, rest)?;
-    let (_, rest) = expect(names, Sort::RParen, rest)?;
+    let (list, (_, rest)) = beside(list, expect(names, Sort::RParen, rest))?;
     Ok((list, rest))
 }

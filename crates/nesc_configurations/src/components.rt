@@ -13,7 +13,7 @@ use nesc_parse_decls::{added, single};
 use nesc_parse_types::{Found, expect, is_comma, name};
 use nesc_specifications::named_as;
 use nesc_tree::{ConfLine, GenericArg, Sort, TypeNames, ahead};
-use nm_base::{List, Token};
+use nm_base::{List, Token, beside};
 use std::alloc::Global;
 
 fn read_component_end<'a>(
@@ -26,7 +26,7 @@ fn read_component_end<'a>(
 ) -> Found<'a, ConfLine>
     ensures { Gives names.now result (reads.component_end spare token.now args names.now ts.now) }
 {
-    let (alias, rest) = named_as(names, token, ts)?;
+    let (args, (alias, rest)) = beside(args, named_as(names, token, ts))?;
     Ok((component_of(alloc, token, args, alias)?, rest))
 }
 
@@ -141,8 +141,8 @@ fn another_component<'a>(
     requires room { 0 < spare }
     ensures { Gives names.now result (form_in spare (grammar.applied so_far parts.another_component) names.now ts.now) }
 {
-    let (_, rest) = expect(names, Sort::Comma, ts)?;
-    let (next, rest) = component(alloc, names, spare, rest)?;
+    let (so_far, (_, rest)) = beside(so_far, expect(names, Sort::Comma, ts))?;
+    let (so_far, (next, rest)) = beside(so_far, component(alloc, names, spare, rest))?;
     Ok((added(so_far, next)?, rest))
 }
 
@@ -183,6 +183,6 @@ pub fn components_line<'a>(
 {
     let (_, rest) = expect(names, Sort::Components, ts)?;
     let (list, rest) = some_components(alloc, names, spare, rest)?;
-    let (_, rest) = expect(names, Sort::Semi, rest)?;
+    let (list, (_, rest)) = beside(list, expect(names, Sort::Semi, rest))?;
     Ok((list, rest))
 }

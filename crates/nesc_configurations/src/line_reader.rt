@@ -19,7 +19,7 @@ use nesc_parse_exprs::type_form;
 use nesc_parse_types::{Found, Stop, begins_type, expect};
 use nesc_specifications::joined;
 use nesc_tree::{Change, ConfLine, Decl, Sort, TypeNames, ahead};
-use nm_base::{List, Token};
+use nm_base::{List, Token, beside};
 use std::alloc::Global;
 
 /// A type alone.
@@ -34,7 +34,7 @@ fn type_line<'a>(
     ensures { Gives names.now result (form_in spare parts.type_alone names.now ts.now) }
 {
     let (found, rest) = type_form(alloc, names, spare, ts)?;
-    let (_, rest) = expect(names, Sort::Semi, rest)?;
+    let (found, (_, rest)) = beside(found, expect(names, Sort::Semi, rest))?;
     Ok((type_of(alloc, found)?, rest))
 }
 
@@ -181,7 +181,7 @@ fn another_line<'a>(
     ensures gives { Gives names.new result (form_in spare (grammar.applied so_far parts.another_line) names.old ts.now) }
     ensures noted { all_taken_back changes.new.items names.new ≡ all_taken_back changes.old.items names.old }
 {
-    let (more, rest) = line(alloc, names, changes, spare, ts)?;
+    let (so_far, (more, rest)) = beside(so_far, line(alloc, names, changes, spare, ts))?;
     Ok((joined(so_far, more)?, rest))
 }
 
@@ -224,6 +224,6 @@ pub fn lines<'a>(
 {
     let (_, rest) = expect(names, Sort::LBrace, ts)?;
     let (list, rest) = some_lines(alloc, names, changes, spare, rest)?;
-    let (_, rest) = expect(names, Sort::RBrace, rest)?;
+    let (list, (_, rest)) = beside(list, expect(names, Sort::RBrace, rest))?;
     Ok((list, rest))
 }

@@ -10,8 +10,16 @@ ghost use Rattle.nesc_configurations.specs.Parts as parts;
 
 use nesc_parse_decls::single;
 use nesc_tree::{CastType, ConfLine, Decl, Expr, GenericArg, Operand, Sort, WireEnd};
-use nm_base::{List, Name, NoMemory, Pos, Token};
+use nm_base::{List, Name, NoMemory, Pos, Token, beside};
 use std::alloc::Global;
+
+// The texts of two tokens.
+fn two_texts(alloc: Global, first: &Token, second: &Token) -> Result<(Name, Name), NoMemory>
+    ensures { IfOk result (λ x. (x.0 ≡ first.now.text) × (x.1 ≡ second.now.text)) }
+{
+    let first = Name::new(alloc, first.text.as_bytes())?;
+    beside(first, Name::new(alloc, second.text.as_bytes()))
+}
 
 /// A component, with its arguments where it is a new one.
 pub fn component_of(
@@ -22,10 +30,11 @@ pub fn component_of(
 ) -> Result<ConfLine, NoMemory>
     ensures { IfOk result (λ l. l ≡ parts.component_of name.now args alias.now) }
 {
+    let (args, texts) = beside(args, two_texts(alloc, name, alias))?;
     Ok(ConfLine::Component {
-        name: Name::new(alloc, name.text.as_bytes())?,
+        name: texts.0,
         new_args: args,
-        alias: Name::new(alloc, alias.text.as_bytes())?,
+        alias: texts.1,
         pos: name.pos,
     })
 }
@@ -50,6 +59,18 @@ fn value_in(found: Option<Operand>) -> Option<Expr>
     }
 }
 
+// The texts of the names of an end.
+fn end_texts(
+    alloc: Global,
+    first: &Token,
+    second: Option<&Token>,
+) -> Result<(Name, Option<Name>), NoMemory>
+    ensures { IfOk result (λ x. (x.0 ≡ first.now.text) × (x.1 ≡ inner.text_of (token_in second.entry))) }
+{
+    let first = Name::new(alloc, first.text.as_bytes())?;
+    beside(first, text_in(alloc, second))
+}
+
 /// An end of a wire.
 pub fn end_of(
     alloc: Global,
@@ -59,9 +80,10 @@ pub fn end_of(
 ) -> Result<WireEnd, NoMemory>
     ensures { IfOk result (λ e. e ≡ spec.end_of (token_in second.entry) param first.now) }
 {
+    let (param, texts) = beside(param, end_texts(alloc, first, second))?;
     Ok(WireEnd {
-        first: Name::new(alloc, first.text.as_bytes())?,
-        second: text_in(alloc, second)?,
+        first: texts.0,
+        second: texts.1,
         param: value_in(param),
     })
 }

@@ -12,7 +12,7 @@ use nesc_heads::some_item_name;
 use nesc_parse_exprs::expr;
 use nesc_parse_types::{Found, Stop, expect, name};
 use nesc_tree::{ConfLine, Operand, Sort, TypeNames, WireEnd, ahead, level};
-use nm_base::{List, Token};
+use nm_base::{List, Token, beside};
 use std::alloc::Global;
 
 #[tactic(auto, unfolding(nesc_tree::specs::Reading::read))]
@@ -27,7 +27,7 @@ fn found_bracket<'a>(
 {
     let (_, rest) = expect(names, Sort::LBracket, ts)?;
     let (found, rest) = expr(alloc, names, spare, level::CONDITIONAL, rest)?;
-    let (_, rest) = expect(names, Sort::RBracket, rest)?;
+    let (found, (_, rest)) = beside(found, expect(names, Sort::RBracket, rest))?;
     Ok((Some(found), rest))
 }
 
@@ -107,7 +107,7 @@ fn last_end<'a>(
     ensures { Gives names.now result (form_in spare parts.last_end names.now ts.now) }
 {
     let (found, rest) = wire_end(alloc, names, spare, ts)?;
-    let (_, rest) = expect(names, Sort::Semi, rest)?;
+    let (found, (_, rest)) = beside(found, expect(names, Sort::Semi, rest))?;
     Ok((found, rest))
 }
 
@@ -151,7 +151,7 @@ fn read_wire<'a>(
 {
     let (before, rest) = end_rest(alloc, names, spare, first, ts)?;
     let joint = ahead(names, rest);
-    let (behind, rest) = behind_joint(alloc, names, spare, joint, rest)?;
+    let (before, (behind, rest)) = beside(before, behind_joint(alloc, names, spare, joint, rest))?;
     Ok((wire_of(alloc, joint, before, behind, first.pos)?, rest))
 }
 

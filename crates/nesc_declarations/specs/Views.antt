@@ -3,6 +3,8 @@ use Rattle.std.specs.Prelude.{ℕ, false, List, [], ◌∷◌, Option, Some, Non
 use denote.Ref.{Bor}
 use Rattle.nm_base.specs.declared.token.Token.{Token}
 use Rattle.nesc_tree.specs.declared.declarations.Decl.TheVariants as d
+use Rattle.nesc_tree.specs.declared.declarations.Init.{Init}
+use Rattle.nesc_tree.specs.declared.declarations.Variable.{Variable}
 use Rattle.nm_base.specs.declared.pos.Pos.{Pos}
 use Rattle.nesc_tree.specs.declared.operand.CastType.{CastType}
 use Rattle.nesc_tree.specs.declared.tree.Expr.{Expr}
@@ -25,6 +27,10 @@ called_of c item bracket = spec.called c.params c.attrs c.body item bracket
 -- from the bracket on
 abbrev pub function_of : FunctionRest → Option Token → spec.Behind
 function_of f item = called_of f.call item f.bracket
+
+-- a variable by its stars, its name, its dimensions and its initialiser
+abbrev pub named_variable : ℕ → Token → List Expr → Option Init → Variable
+named_variable stars name dims init = record { declarator = record { stars = stars; name = name.text; dims = dims }; init = init; pos = name.pos }
 
 -- behind the dimensions of the first variable
 abbrev pub first_of : FirstEnd → List Expr → spec.Behind

@@ -17,7 +17,7 @@ use nesc_parse_decls::{added, no_list};
 use nesc_parse_types::{Found, begins_type, expect};
 use nesc_scopes::hide;
 use nesc_tree::{Change, Decl, Site, Sort, TypeNames, Variable, ahead};
-use nm_base::{List, NoMemory, Token};
+use nm_base::{List, NoMemory, Token, beside};
 use std::alloc::Global;
 
 /// Whether a declaration outside of blocks begins with a token of this sort.
@@ -90,7 +90,8 @@ fn hiding<'a>(
     ensures noted { all_taken_back changes.new.items names.new ≡ all_taken_back changes.old.items names.old }
 {
     let (declared, rest) = declaring(alloc, names, changes, spare, site, first, ts)?;
-    hide_declared(names, changes, &declared)?;
+    let hidden = hide_declared(names, changes, &declared);
+    let (declared, _) = beside(declared, hidden)?;
     Ok((decl_of(declared), rest))
 }
 
@@ -164,7 +165,7 @@ fn another_decl<'a>(
     ensures gives { Gives names.new result (form_in spare (grammar.applied so_far (forms.another_decl site)) names.old ts.now) }
     ensures noted { all_taken_back changes.new.items names.new ≡ all_taken_back changes.old.items names.old }
 {
-    let (next, rest) = decl(alloc, names, changes, spare, site, ts)?;
+    let (so_far, (next, rest)) = beside(so_far, decl(alloc, names, changes, spare, site, ts))?;
     Ok((added(so_far, next)?, rest))
 }
 

@@ -19,7 +19,7 @@ use nesc_heads::no_words;
 use nesc_parse_exprs::type_form;
 use nesc_parse_types::{Found, Stop, begins_type, expect};
 use nesc_tree::{CastType, Change, Site, Sort, TypeNames, ahead};
-use nm_base::Token;
+use nm_base::{Token, beside};
 use std::alloc::Global;
 
 fn is_storage(sort: Sort) -> bool
@@ -89,7 +89,10 @@ fn norace_group<'a>(
     ensures noted { all_taken_back changes.new.items names.new ≡ all_taken_back changes.old.items names.old }
 {
     let (shared, rest) = type_form(alloc, names, spare, ts)?;
-    let (vars, rest) = closed_variables(alloc, names, changes, spare, rest)?;
+    let (shared, (vars, rest)) = beside(
+        shared,
+        closed_variables(alloc, names, changes, spare, rest),
+    )?;
     Ok((grouped(true, shared, vars), rest))
 }
 
@@ -135,7 +138,7 @@ fn alone<'a>(
 ) -> Found<'a, Declared>
     ensures { GivesAs declaring_of names.now result (form_in spare (grammar.applied shared spec.type_alone) names.now ts.now) }
 {
-    let (_, rest) = expect(names, Sort::Semi, ts)?;
+    let (shared, (_, rest)) = beside(shared, expect(names, Sort::Semi, ts))?;
     Ok((type_alone(shared), rest))
 }
 

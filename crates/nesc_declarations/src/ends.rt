@@ -5,7 +5,7 @@ ghost use Rattle.nesc_grammar.specs.Declarations as spec;
 ghost use Rattle.nesc_grammar.specs.Declarations.{no_words};
 ghost use Rattle.nesc_heads.specs.Gives.{token_in};
 ghost use Rattle.nesc_heads.specs.Words.{words_of};
-ghost use Rattle.nesc_declarations.specs.Views.{behind_of, declaring_of, first_of, function_of, named_function, start, type_of};
+ghost use Rattle.nesc_declarations.specs.Views.{behind_of, declaring_of, first_of, function_of, named_function, named_variable, start, type_of};
 
 use nesc_declarators::{declared_type, group};
 use nesc_heads::Words;
@@ -14,7 +14,7 @@ use nesc_tree::{
     Attr, CastType, Decl, Declarator, Expr, FuncHead, Init, Param, Site, Stmt, TypeSpec, VarGroup,
     Variable,
 };
-use nm_base::{List, Name, NoMemory, Pos, Token};
+use nm_base::{List, Name, NoMemory, Pos, Token, beside};
 use std::alloc::Global;
 
 /// Which form stands behind a name.
@@ -116,6 +116,18 @@ fn function_named(
     Declared::Func(head, call.body)
 }
 
+// The texts of a name and of the item behind it, where there is one.
+fn texts_in(
+    alloc: Global,
+    name: &Token,
+    item: Option<&Token>,
+) -> Result<(Name, Option<Name>), NoMemory>
+    ensures { IfOk result (λ x. (x.0 ≡ name.now.text) × (x.1 ≡ spec.text_of (token_in item.entry))) }
+{
+    let text = Name::new(alloc, name.text.as_bytes())?;
+    beside(text, text_in(alloc, item))
+}
+
 /// A function by its words, its type, its name and what is behind it.
 #[tactic(auto, using(crate::proofs::Forms::function_is))]
 fn function_decl(
@@ -129,10 +141,31 @@ fn function_decl(
 ) -> Result<Declared, NoMemory>
     ensures { IfOk result (λ d. declaring_of d ≡ function_of rest (token_in item.entry) (words_of words) (start shared stars name.now)) }
 {
-    let text = Name::new(alloc, name.text.as_bytes())?;
-    let item = text_in(alloc, item)?;
+    let ((shared, rest), (text, item)) = beside((shared, rest), texts_in(alloc, name, item))?;
     let returns = declared_type(shared, stars, no_list(alloc));
     Ok(function_named(words, returns, text, name.pos, item, rest))
+}
+
+// A variable by its stars, its name, its dimensions and its initialiser.
+fn variable_named(
+    alloc: Global,
+    stars: u8,
+    name: &Token,
+    dims: List<Expr>,
+    init: Option<Init>,
+) -> Result<Variable, NoMemory>
+    ensures { IfOk result (λ v. v ≡ named_variable stars name.now dims init) }
+{
+    let ((dims, init), text) = beside((dims, init), Name::new(alloc, name.text.as_bytes()))?;
+    Ok(Variable {
+        declarator: Declarator {
+            stars,
+            name: text,
+            dims,
+        },
+        init,
+        pos: name.pos,
+    })
 }
 
 /// Variables by their type, the name of the first one and what is behind it.
@@ -146,16 +179,13 @@ fn variables_decl(
 ) -> Result<Declared, NoMemory>
     ensures { IfOk result (λ d. declaring_of d ≡ first_of end dims no_words (start shared stars name.now)) }
 {
-    let first = Variable {
-        declarator: Declarator {
-            stars,
-            name: Name::new(alloc, name.text.as_bytes())?,
-            dims,
-        },
-        init: end.init,
-        pos: name.pos,
-    };
-    Ok(Declared::Vars(group(false, shared, prepended(first, end.more)?)))
+    let FirstEnd { init, more } = end;
+    let ((shared, more), first) = beside(
+        (shared, more),
+        variable_named(alloc, stars, name, dims, init),
+    )?;
+    let (shared, vars) = beside(shared, prepended(first, more))?;
+    Ok(Declared::Vars(group(false, shared, vars)))
 }
 
 /// A declaration by its words, its type, its name and what is behind it.

@@ -16,7 +16,7 @@ use nesc_parse_decls::{attributes, no_list};
 use nesc_parse_exprs::expr;
 use nesc_parse_types::{Found, Stop, begins_type, expect};
 use nesc_tree::{Change, Expr, Sort, TypeNames, Variable, ahead, level};
-use nm_base::{List, Token};
+use nm_base::{List, Token, beside};
 use std::alloc::Global;
 
 #[tactic(auto, unfolding(nesc_tree::specs::Reading::read))]
@@ -32,7 +32,7 @@ fn closed_more<'a>(
     ensures noted { all_taken_back changes.new.items names.new ≡ all_taken_back changes.old.items names.old }
 {
     let (more, rest) = more_variables(alloc, names, changes, spare, ts)?;
-    let (_, rest) = expect(names, Sort::Semi, rest)?;
+    let (more, (_, rest)) = beside(more, expect(names, Sort::Semi, rest))?;
     Ok((more, rest))
 }
 
@@ -49,7 +49,7 @@ fn first_end<'a>(
     ensures noted { all_taken_back changes.new.items names.new ≡ all_taken_back changes.old.items names.old }
 {
     let (init, rest) = some_init(alloc, names, spare, ts)?;
-    let (more, rest) = closed_more(alloc, names, changes, spare, rest)?;
+    let (init, (more, rest)) = beside(init, closed_more(alloc, names, changes, spare, rest))?;
     Ok((FirstEnd { init, more }, rest))
 }
 
@@ -94,7 +94,7 @@ fn dimension<'a>(alloc: Global, names: &TypeNames, spare: usize, ts: &'a [Token]
     ensures { Gives names.now result (form_in spare forms.dimension names.now ts.now) }
 {
     let (size, rest) = expr(alloc, names, spare, level::CONDITIONAL, ts)?;
-    let (_, rest) = expect(names, Sort::RBracket, rest)?;
+    let (size, (_, rest)) = beside(size, expect(names, Sort::RBracket, rest))?;
     Ok((size.expr, rest))
 }
 
@@ -110,7 +110,7 @@ fn first_dimension<'a>(
     ensures { Gives names.now result (form_in spare forms.first_dimension names.now ts.now) }
 {
     let (size, rest) = dimension(alloc, names, spare, ts)?;
-    let (more, rest) = dims(alloc, names, spare, rest)?;
+    let (size, (more, rest)) = beside(size, dims(alloc, names, spare, rest))?;
     Ok((first_dims(size, more.exprs)?, rest))
 }
 
@@ -127,7 +127,7 @@ fn joined_dimensioned<'a>(
     ensures noted { all_taken_back changes.new.items names.new ≡ all_taken_back changes.old.items names.old }
 {
     let (dims, rest) = first_dimension(alloc, names, spare, ts)?;
-    let (end, rest) = first_variable(alloc, names, changes, spare, rest)?;
+    let (dims, (end, rest)) = beside(dims, first_variable(alloc, names, changes, spare, rest))?;
     Ok((End::Variables(dims, end), rest))
 }
 

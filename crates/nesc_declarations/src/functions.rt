@@ -16,7 +16,7 @@ use nesc_parse_stmts::stmt;
 use nesc_parse_types::{Found, Stop, expect};
 use nesc_scopes::give_back;
 use nesc_tree::{Change, Jumps, Param, Sort, Stmt, TypeNames, ahead};
-use nm_base::{List, Token};
+use nm_base::{List, Token, beside};
 use std::alloc::Global;
 
 /// The semicolon of a prototype.
@@ -76,8 +76,11 @@ fn call_end<'a>(
     ensures gives { GivesAs called_of names.old result (form_in spare (grammar.applied params forms.call_end) names.old ts.now) }
     ensures back { names.new ≡ names.old }
 {
-    let (attrs, rest) = attributes(alloc, names, spare, ts)?;
-    let (body, rest) = some_body(alloc, names, spare, rest)?;
+    let (params, (attrs, rest)) = beside(params, attributes(alloc, names, spare, ts))?;
+    let ((params, attrs), (body, rest)) = beside(
+        (params, attrs),
+        some_body(alloc, names, spare, rest),
+    )?;
     Ok((
         CallEnd {
             params,
@@ -156,7 +159,7 @@ fn open_bracketed<'a>(
     ensures noted { all_taken_back changes.new.items names.new ≡ all_taken_back changes.old.items names.old }
 {
     let (param, rest) = bracket_rest(alloc, names, changes, spare, ts)?;
-    let (call, rest) = call_form(alloc, names, changes, spare, rest)?;
+    let (param, (call, rest)) = beside(param, call_form(alloc, names, changes, spare, rest))?;
     let found = FunctionRest {
         bracket: Some(param),
         call,

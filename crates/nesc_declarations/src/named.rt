@@ -18,7 +18,7 @@ use nesc_heads::{Words, function_words};
 use nesc_parse_exprs::type_form;
 use nesc_parse_types::{Found, Stop, name};
 use nesc_tree::{CastType, Change, Site, Sort, TypeNames, ahead};
-use nm_base::Token;
+use nm_base::{Token, beside};
 use std::alloc::Global;
 
 // Where no variable may stand: what is behind a name, by its first token.
@@ -127,9 +127,9 @@ pub fn named<'a>(
     ensures gives { GivesAs declaring_of names.new result (form_in spare (forms.named (words_of words) shared behind) names.old ts.now) }
     ensures noted { all_taken_back changes.new.items names.new ≡ all_taken_back changes.old.items names.old }
 {
-    let (stars, rest) = stars(names, spare, ts)?;
-    let (token, rest) = name(names, rest)?;
-    let (end, rest) = end_of(alloc, names, changes, spare, behind, rest)?;
+    let (shared, (stars, rest)) = beside(shared, stars(names, spare, ts))?;
+    let (shared, (token, rest)) = beside(shared, name(names, rest))?;
+    let (shared, (end, rest)) = beside(shared, end_of(alloc, names, changes, spare, behind, rest))?;
     Ok((finished(alloc, words, shared, stars, token, end)?, rest))
 }
 

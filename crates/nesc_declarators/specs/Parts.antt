@@ -9,10 +9,18 @@ use Rattle.nesc_tree.specs.declared.declarations.Init.{Init}
 use Rattle.nesc_tree.specs.declared.declarations.Stmt.{Stmt}
 use Rattle.nesc_tree.specs.declared.declarations.Stmt.TheVariants as st
 use Rattle.nesc_tree.specs.declared.declarations.Variable.{Variable}
+use Rattle.nesc_tree.specs.declared.operand.Operand.{Operand}
+use Rattle.nesc_tree.specs.Level as level
 use Rattle.nesc_tree.specs.Sorts as names
 use Rattle.nesc_tree.specs.Form.{Form}
 use Rattle.nesc_grammar.specs.Grammar as grammar
 use Rattle.nesc_grammar.specs.Declarations as spec
+
+-- ---- dimensions
+
+-- the size of one, in its brackets
+abbrev pub dim_size : Form Operand
+dim_size = grammar.behind (grammar.one s.LBracket) (grammar.before (grammar.expr level.conditional) (grammar.one s.RBracket))
 
 -- ---- variables
 
@@ -27,8 +35,11 @@ variable_end = grammar.behind spec.attributes spec.some_init
 abbrev pub joined_variable : Form Variable
 joined_variable = Form.seq spec.with_init hiding_variable variable_end
 
+abbrev pub next_variable : Form Variable
+next_variable = grammar.behind (grammar.one s.Comma) spec.variable
+
 abbrev pub another_variable : Form (List Variable → List Variable)
-another_variable = grammar.map spec.added (grammar.behind (grammar.one s.Comma) spec.variable)
+another_variable = grammar.map spec.added next_variable
 
 abbrev pub maybe_variables : Form (List Variable)
 maybe_variables = Form.maybe spec.variables []

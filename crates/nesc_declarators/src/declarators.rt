@@ -4,12 +4,13 @@ ghost use Rattle.std.specs.Prelude.{◌≡◌, ◌≤◌, ◌<◌, ◌^◌, IfOk
 ghost use Rattle.nesc_grammar.specs.Grammar as grammar;
 ghost use Rattle.nesc_grammar.specs.Declarations as spec;
 ghost use Rattle.nesc_parse_types.specs.Gives.{Gives, form_in};
+ghost use Rattle.nesc_declarators.specs.Parts as parts;
 
 use crate::parts::{more_dims, no_dims, plain_variable};
 use nesc_parse_exprs::expr;
 use nesc_parse_types::{Found, Stop, expect, name};
-use nesc_tree::{Dims, Sort, TypeNames, Variable, ahead, level, same_sort};
-use nm_base::Token;
+use nesc_tree::{Dims, Operand, Sort, TypeNames, Variable, ahead, level, same_sort};
+use nm_base::{Token, beside};
 use std::alloc::Global;
 
 /// The stars before the next token; each is a level below the one before it (C99 6.7.5.1).
@@ -35,6 +36,23 @@ fn is_bracket(sort: Sort) -> bool
     matches!(sort, Sort::LBracket)
 }
 
+/// The size of a dimension, in its brackets.
+#[tactic(auto, unfolding(nesc_tree::specs::Reading::read))]
+fn dim_size<'a>(
+    alloc: Global,
+    names: &TypeNames,
+    spare: usize,
+    ts: &'a [Token],
+) -> Found<'a, Operand>
+    requires { spare < 2 ^ 8 }
+    ensures { Gives names.now result (form_in spare parts.dim_size names.now ts.now) }
+{
+    let (_, rest) = expect(names, Sort::LBracket, ts)?;
+    let (size, rest) = expr(alloc, names, spare, level::CONDITIONAL, rest)?;
+    let (size, (_, rest)) = beside(size, expect(names, Sort::RBracket, rest))?;
+    Ok((size, rest))
+}
+
 #[tactic(auto, unfolding(nesc_tree::specs::Reading::read))]
 fn another_dim<'a>(
     alloc: Global,
@@ -46,9 +64,7 @@ fn another_dim<'a>(
     requires { spare < 2 ^ 8 }
     ensures { Gives names.now result (form_in spare (grammar.applied so_far grammar.another_dim) names.now ts.now) }
 {
-    let (_, rest) = expect(names, Sort::LBracket, ts)?;
-    let (size, rest) = expr(alloc, names, spare, level::CONDITIONAL, rest)?;
-    let (_, rest) = expect(names, Sort::RBracket, rest)?;
+    let (so_far, (size, rest)) = beside(so_far, dim_size(alloc, names, spare, ts))?;
     Ok((more_dims(so_far, size)?, rest))
 }
 

@@ -16,7 +16,7 @@ use nesc_parse_decls::no_list;
 use nesc_parse_exprs::{refused, type_form};
 use nesc_parse_types::{Found, Stop, begins_type, expect};
 use nesc_tree::{Change, ForStart, Sort, Stmt, TypeNames, Variable, ahead};
-use nm_base::{List, Token};
+use nm_base::{List, Token, beside};
 use std::alloc::Global;
 
 /// Whether a declaration in a block begins with a token of this sort.
@@ -163,6 +163,9 @@ pub fn for_variables<'a>(
     ensures noted { all_taken_back changes.new.items names.new ≡ all_taken_back changes.old.items names.old }
 {
     let (shared, rest) = type_form(alloc, names, spare, ts)?;
-    let (vars, rest) = closed_variables(alloc, names, changes, spare, rest)?;
+    let (shared, (vars, rest)) = beside(
+        shared,
+        closed_variables(alloc, names, changes, spare, rest),
+    )?;
     Ok((for_group(shared, vars), rest))
 }

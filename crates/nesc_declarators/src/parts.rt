@@ -7,11 +7,12 @@ ghost use Rattle.nesc_grammar.specs.Statements as statements;
 ghost use Rattle.nesc_tree.specs.declared.declarations.ForStart.TheVariants as start;
 ghost use Rattle.nesc_declarators.specs.Parts as parts;
 
+use nesc_parse_decls::added;
 use nesc_tree::{
     Attr, CastType, Decl, Declarator, Dims, Expr, ForStart, Init, Operand, Stmt, TypeSpec,
     VarGroup, Variable,
 };
-use nm_base::{Boxed, List, Name, NoMemory, Pos, Token};
+use nm_base::{Boxed, List, Name, NoMemory, Pos, Token, beside};
 use std::alloc::Global;
 
 pub fn no_dims(alloc: Global) -> Dims
@@ -27,13 +28,9 @@ pub fn no_dims(alloc: Global) -> Dims
 pub fn more_dims(so_far: Dims, size: Operand) -> Result<Dims, NoMemory>
     ensures { IfOk result (λ l. l ≡ grammar.more_dims size so_far) }
 {
-    let Dims { exprs, height } = so_far;
-    let mut longer = exprs.into_vec();
-    longer.push(size.expr)?;
-    Ok(Dims {
-        exprs: List::new(longer),
-        height: height.max(size.height),
-    })
+    let height = so_far.height.max(size.height);
+    let exprs = added(so_far.exprs, size.expr)?;
+    Ok(Dims { exprs, height })
 }
 
 /// A variable without an initialiser.
@@ -45,11 +42,12 @@ pub fn plain_variable(
 ) -> Result<Variable, NoMemory>
     ensures { IfOk result (λ v. v ≡ spec.variable_of token.now dims stars) }
 {
+    let (exprs, name) = beside(dims.exprs, Name::new(alloc, token.text.as_bytes()))?;
     Ok(Variable {
         declarator: Declarator {
             stars,
-            name: Name::new(alloc, token.text.as_bytes())?,
-            dims: dims.exprs,
+            name,
+            dims: exprs,
         },
         init: None,
         pos: token.pos,

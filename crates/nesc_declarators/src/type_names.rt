@@ -14,7 +14,7 @@ use nesc_parse_exprs::type_form;
 use nesc_parse_types::{Found, expect};
 use nesc_scopes::declare_type;
 use nesc_tree::{Attr, CastType, Change, Decl, Sort, TypeNames, Variable};
-use nm_base::{List, Token};
+use nm_base::{List, Token, beside};
 use std::alloc::Global;
 
 /// A declarator, from behind which its name is a type name.
@@ -31,7 +31,8 @@ fn naming_variable<'a>(
     ensures noted { all_taken_back changes.new.items names.new ≡ all_taken_back changes.old.items names.old }
 {
     let (variable, rest) = declarator(alloc, names, spare, ts)?;
-    declare_type(names, changes, &variable.declarator.name)?;
+    let declared = declare_type(names, changes, &variable.declarator.name);
+    let (variable, _) = beside(variable, declared)?;
     Ok((variable, rest))
 }
 
@@ -46,7 +47,7 @@ fn type_name_end<'a>(
     ensures { Gives names.now result (form_in spare parts.type_name_end names.now ts.now) }
 {
     let (attrs, rest) = attributes(alloc, names, spare, ts)?;
-    let (_, rest) = expect(names, Sort::Semi, rest)?;
+    let (attrs, (_, rest)) = beside(attrs, expect(names, Sort::Semi, rest))?;
     Ok((attrs, rest))
 }
 
@@ -63,8 +64,14 @@ fn type_name_of<'a>(
     ensures gives { Gives names.new result (form_in spare (grammar.applied shared spec.type_name_of) names.old ts.now) }
     ensures noted { all_taken_back changes.new.items names.new ≡ all_taken_back changes.old.items names.old }
 {
-    let (variable, rest) = naming_variable(alloc, names, changes, spare, ts)?;
-    let (attrs, rest) = type_name_end(alloc, names, spare, rest)?;
+    let (shared, (variable, rest)) = beside(
+        shared,
+        naming_variable(alloc, names, changes, spare, ts),
+    )?;
+    let ((shared, variable), (attrs, rest)) = beside(
+        (shared, variable),
+        type_name_end(alloc, names, spare, rest),
+    )?;
     Ok((type_name(variable, attrs, shared), rest))
 }
 

@@ -13,7 +13,7 @@ use nesc_parse_decls::{added, attributes, init, no_list, single};
 use nesc_parse_types::{Found, Stop, expect, is_comma};
 use nesc_scopes::hide;
 use nesc_tree::{Change, Init, Sort, TypeNames, Variable, ahead, same_sort};
-use nm_base::{List, Token};
+use nm_base::{List, Token, beside};
 use std::alloc::Global;
 
 /// A declarator, from behind which its name is in force.
@@ -30,7 +30,8 @@ fn hiding_variable<'a>(
     ensures noted { all_taken_back changes.new.items names.new ≡ all_taken_back changes.old.items names.old }
 {
     let (variable, rest) = declarator(alloc, names, spare, ts)?;
-    hide(names, changes, &variable.declarator.name)?;
+    let hidden = hide(names, changes, &variable.declarator.name);
+    let (variable, _) = beside(variable, hidden)?;
     Ok((variable, rest))
 }
 
@@ -84,7 +85,7 @@ fn joined_variable<'a>(
     ensures noted { all_taken_back changes.new.items names.new ≡ all_taken_back changes.old.items names.old }
 {
     let (variable, rest) = hiding_variable(alloc, names, changes, spare, ts)?;
-    let (init, rest) = variable_end(alloc, names, spare, rest)?;
+    let (variable, (init, rest)) = beside(variable, variable_end(alloc, names, spare, rest))?;
     Ok((with_init(variable, init), rest))
 }
 
@@ -103,6 +104,23 @@ fn variable<'a>(
     joined_variable(alloc, names, changes, spare, ts)
 }
 
+/// A variable behind a comma.
+#[tactic(auto, unfolding(nesc_tree::specs::Reading::read))]
+fn next_variable<'a>(
+    alloc: Global,
+    names: &mut TypeNames,
+    changes: &mut Vec<Change>,
+    spare: usize,
+    ts: &'a [Token],
+) -> Found<'a, Variable>
+    requires { spare < 2 ^ 8 }
+    ensures gives { Gives names.new result (form_in spare parts.next_variable names.old ts.now) }
+    ensures noted { all_taken_back changes.new.items names.new ≡ all_taken_back changes.old.items names.old }
+{
+    let (_, rest) = expect(names, Sort::Comma, ts)?;
+    variable(alloc, names, changes, spare, rest)
+}
+
 #[tactic(auto, unfolding(nesc_tree::specs::Reading::read))]
 fn another_variable<'a>(
     alloc: Global,
@@ -116,8 +134,7 @@ fn another_variable<'a>(
     ensures gives { Gives names.new result (form_in spare (grammar.applied so_far parts.another_variable) names.old ts.now) }
     ensures noted { all_taken_back changes.new.items names.new ≡ all_taken_back changes.old.items names.old }
 {
-    let (_, rest) = expect(names, Sort::Comma, ts)?;
-    let (next, rest) = variable(alloc, names, changes, spare, rest)?;
+    let (so_far, (next, rest)) = beside(so_far, next_variable(alloc, names, changes, spare, ts))?;
     Ok((added(so_far, next)?, rest))
 }
 
@@ -182,6 +199,6 @@ pub fn closed_variables<'a>(
     ensures noted { all_taken_back changes.new.items names.new ≡ all_taken_back changes.old.items names.old }
 {
     let (list, rest) = variables(alloc, names, changes, spare, ts)?;
-    let (_, rest) = expect(names, Sort::Semi, rest)?;
+    let (list, (_, rest)) = beside(list, expect(names, Sort::Semi, rest))?;
     Ok((list, rest))
 }

@@ -12,7 +12,7 @@ use nesc_parse_exprs::type_form;
 use nesc_parse_types::{Found, expect, name};
 use nesc_scopes::hide;
 use nesc_tree::{Change, Param, Sort, TypeNames, ahead, same_sort};
-use nm_base::Token;
+use nm_base::{Token, beside};
 use std::alloc::Global;
 
 /// A name that is in force from behind it.
@@ -58,7 +58,7 @@ pub fn bracket_rest<'a>(
     ensures noted { all_taken_back changes.new.items names.new ≡ all_taken_back changes.old.items names.old }
 {
     let (shared, rest) = type_form(alloc, names, spare, ts)?;
-    let (token, rest) = bracket_name(names, changes, rest)?;
+    let (shared, (token, rest)) = beside(shared, bracket_name(names, changes, rest))?;
     Ok((bracket_of(alloc, shared, token)?, rest))
 }
 

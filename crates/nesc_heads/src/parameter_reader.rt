@@ -14,7 +14,7 @@ use nesc_parse_exprs::{expr, type_form};
 use nesc_parse_types::{Found, Stop, begins_type, expect, is_comma};
 use nesc_scopes::hide;
 use nesc_tree::{CastType, Change, Expr, Param, Sort, TypeNames, ahead, level, same_sort};
-use nm_base::{List, Name, Token};
+use nm_base::{List, Name, Token, beside};
 use std::alloc::Global;
 
 /// A dimension.
@@ -25,7 +25,7 @@ fn dimension<'a>(alloc: Global, names: &TypeNames, spare: usize, ts: &'a [Token]
 {
     let (_, rest) = expect(names, Sort::LBracket, ts)?;
     let (size, rest) = expr(alloc, names, spare, level::CONDITIONAL, rest)?;
-    let (_, rest) = expect(names, Sort::RBracket, rest)?;
+    let (size, (_, rest)) = beside(size, expect(names, Sort::RBracket, rest))?;
     Ok((size.expr, rest))
 }
 
@@ -66,7 +66,7 @@ fn named_parameter<'a>(
 {
     let (token, rest) = expect(names, sort, ts)?;
     let (size, rest) = some_dimension(alloc, names, spare, rest)?;
-    hide(names, changes, &token.text)?;
+    let (size, ()) = beside(size, hide(names, changes, &token.text))?;
     Ok((named(alloc, token, size)?, rest))
 }
 
@@ -116,8 +116,8 @@ fn param_end<'a>(
     ensures gives { Gives names.new result (form_in spare (grammar.applied shared parts.param_end) names.old ts.now) }
     ensures noted { all_taken_back changes.new.items names.new ≡ all_taken_back changes.old.items names.old }
 {
-    let (stars, rest) = stars(names, spare, ts)?;
-    let (found, rest) = parameter(alloc, names, changes, spare, rest)?;
+    let (shared, (stars, rest)) = beside(shared, stars(names, spare, ts))?;
+    let (shared, (found, rest)) = beside(shared, parameter(alloc, names, changes, spare, rest))?;
     Ok((param_of(shared, stars, found), rest))
 }
 
@@ -165,8 +165,8 @@ fn another_param<'a>(
     ensures gives { Gives names.new result (form_in spare (grammar.applied so_far parts.another_param) names.old ts.now) }
     ensures noted { all_taken_back changes.new.items names.new ≡ all_taken_back changes.old.items names.old }
 {
-    let (_, rest) = expect(names, Sort::Comma, ts)?;
-    let (next, rest) = param(alloc, names, changes, spare, rest)?;
+    let (so_far, (_, rest)) = beside(so_far, expect(names, Sort::Comma, ts))?;
+    let (so_far, (next, rest)) = beside(so_far, param(alloc, names, changes, spare, rest))?;
     Ok((added(so_far, next)?, rest))
 }
 
@@ -226,7 +226,7 @@ fn bracketed_params<'a>(
 {
     let (_, rest) = expect(names, Sort::LParen, ts)?;
     let (list, rest) = maybe_params(alloc, names, changes, spare, rest)?;
-    let (_, rest) = expect(names, Sort::RParen, rest)?;
+    let (list, (_, rest)) = beside(list, expect(names, Sort::RParen, rest))?;
     Ok((list, rest))
 }
 

@@ -8,7 +8,7 @@ ghost use Rattle.nesc_heads.specs.Parts as parts;
 use nesc_declarators::declared_type;
 use nesc_parse_decls::{no_list, single};
 use nesc_tree::{Base, CastType, Expr, Param};
-use nm_base::{List, Name, NoMemory, Token};
+use nm_base::{List, Name, NoMemory, Token, beside};
 use std::alloc::Global;
 
 /// The dimension as a list, where there is one.
@@ -29,8 +29,9 @@ pub fn named(
 ) -> Result<(Option<Name>, List<Expr>), NoMemory>
     ensures { IfOk result (λ p. p ≡ parts.texts (Some token.now, spec.listed_dimension size)) }
 {
-    let name = Name::new(alloc, token.text.as_bytes())?;
-    Ok((Some(name), listed_dimension(alloc, size)?))
+    let (size, name) = beside(size, Name::new(alloc, token.text.as_bytes()))?;
+    let (name, dims) = beside(name, listed_dimension(alloc, size))?;
+    Ok((Some(name), dims))
 }
 
 /// The dimension of a parameter without a name.
@@ -54,9 +55,10 @@ pub fn param_of(shared: CastType, stars: u8, parameter: (Option<Name>, List<Expr
 pub fn bracket_of(alloc: Global, shared: CastType, token: &Token) -> Result<Param, NoMemory>
     ensures { IfOk result (λ p. p ≡ spec.bracket_of shared token.now) }
 {
+    let (shared, name) = beside(shared, Name::new(alloc, token.text.as_bytes()))?;
     Ok(Param {
         ty: shared.ty,
-        name: Some(Name::new(alloc, token.text.as_bytes())?),
+        name: Some(name),
     })
 }
 

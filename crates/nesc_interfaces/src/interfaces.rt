@@ -14,7 +14,7 @@ use nesc_parse_decls::{added, no_list, single};
 use nesc_parse_types::{Found, expect, is_comma, name};
 use nesc_specifications::{attributes, type_parameter};
 use nesc_tree::{Change, Part, Sort, TypeNames, ahead, same_sort};
-use nm_base::{List, Name, Token};
+use nm_base::{List, Name, Token, beside};
 use std::alloc::Global;
 
 #[tactic(auto, unfolding(nesc_tree::specs::Reading::read))]
@@ -42,8 +42,8 @@ fn another_parameter<'a>(
     ensures gives { (spare : ℕ) → Gives names.new result (form_in spare (grammar.applied so_far parts.another_parameter) names.old ts.now) }
     ensures noted { all_taken_back changes.new.items names.new ≡ all_taken_back changes.old.items names.old }
 {
-    let (_, rest) = expect(names, Sort::Comma, ts)?;
-    let (next, rest) = parameter(alloc, names, changes, rest)?;
+    let (so_far, (_, rest)) = beside(so_far, expect(names, Sort::Comma, ts))?;
+    let (so_far, (next, rest)) = beside(so_far, parameter(alloc, names, changes, rest))?;
     Ok((added(so_far, next)?, rest))
 }
 
@@ -89,7 +89,7 @@ fn type_parameters<'a>(
     }
     let (_, rest) = expect(names, Sort::Less, ts)?;
     let (list, rest) = some_parameters(alloc, names, changes, spare, rest)?;
-    let (_, rest) = expect(names, Sort::Greater, rest)?;
+    let (list, (_, rest)) = beside(list, expect(names, Sort::Greater, rest))?;
     Ok((list, rest))
 }
 
@@ -109,8 +109,9 @@ fn read_interface<'a>(
     let (_, rest) = expect(names, Sort::Interface, ts)?;
     let (token, rest) = name(names, rest)?;
     let (params, rest) = type_parameters(alloc, names, changes, spare, rest)?;
-    let (attrs, rest) = attributes(alloc, names, spare, rest)?;
-    let (items, rest) = items(alloc, names, spare, rest)?;
+    let (params, (attrs, rest)) = beside(params, attributes(alloc, names, spare, rest))?;
+    let (lists, (items, rest)) = beside((params, attrs), items(alloc, names, spare, rest))?;
+    let (params, attrs) = lists;
     Ok((interface_of(alloc, token, params, attrs, items)?, rest))
 }
 

@@ -19,7 +19,7 @@ use nesc_parse_exprs::type_form;
 use nesc_parse_types::{Found, expect, name};
 use nesc_scopes::give_back;
 use nesc_tree::{CastType, Param, Sig, Sort, TypeNames, ahead, same_sort};
-use nm_base::{List, Token};
+use nm_base::{List, Token, beside};
 use std::alloc::Global;
 
 // The parameters, whose names end with them.
@@ -51,8 +51,8 @@ fn item_end<'a>(
     ensures back { names.new ≡ names.old }
 {
     let (params, rest) = scoped_parameters(alloc, names, spare, ts)?;
-    let (_, rest) = attributes(alloc, names, spare, rest)?;
-    let (_, rest) = expect(names, Sort::Semi, rest)?;
+    let (params, (_, rest)) = beside(params, attributes(alloc, names, spare, rest))?;
+    let (params, (_, rest)) = beside(params, expect(names, Sort::Semi, rest))?;
     Ok((params, rest))
 }
 
@@ -71,9 +71,9 @@ fn typed_item<'a>(
     ensures gives { Gives names.old result (form_in spare (grammar.applied is_async (grammar.applied word.now (grammar.applied shared spec.typed_item))) names.old ts.now) }
     ensures back { names.new ≡ names.old }
 {
-    let (stars, rest) = stars(names, spare, ts)?;
-    let (token, rest) = name(names, rest)?;
-    let (params, rest) = item_end(alloc, names, spare, rest)?;
+    let (shared, (stars, rest)) = beside(shared, stars(names, spare, ts))?;
+    let (shared, (token, rest)) = beside(shared, name(names, rest))?;
+    let (shared, (params, rest)) = beside(shared, item_end(alloc, names, spare, rest))?;
     Ok((
         sig_of(alloc, is_async, word, shared, stars, token, params)?,
         rest,
@@ -157,7 +157,7 @@ fn another_item<'a>(
     ensures gives { Gives names.new result (form_in spare (grammar.applied so_far parts.another_item) names.old ts.now) }
     ensures back { names.new ≡ names.old }
 {
-    let (next, rest) = item(alloc, names, spare, ts)?;
+    let (so_far, (next, rest)) = beside(so_far, item(alloc, names, spare, ts))?;
     Ok((added(so_far, next)?, rest))
 }
 
@@ -198,6 +198,6 @@ pub fn items<'a>(
 {
     let (_, rest) = expect(names, Sort::LBrace, ts)?;
     let (list, rest) = some_items(alloc, names, spare, rest)?;
-    let (_, rest) = expect(names, Sort::RBrace, rest)?;
+    let (list, (_, rest)) = beside(list, expect(names, Sort::RBrace, rest))?;
     Ok((list, rest))
 }

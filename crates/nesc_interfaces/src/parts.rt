@@ -9,7 +9,7 @@ use nesc_declarators::declared_type;
 use nesc_operands::operators::is_spelled;
 use nesc_parse_decls::no_list;
 use nesc_tree::{Attr, CastType, Interface, Param, Part, Sig};
-use nm_base::{List, Name, NoMemory, Token};
+use nm_base::{List, Name, NoMemory, Token, beside};
 use std::alloc::Global;
 
 /// Whether the word is that of an event.
@@ -32,7 +32,8 @@ pub fn sig_of(
 ) -> Result<Sig, NoMemory>
     ensures { IfOk result (λ s. s ≡ spec.item_of name.now params stars shared word.now is_async) }
 {
-    let text = Name::new(alloc, name.text.as_bytes())?;
+    let (parts, text) = beside((shared, params), Name::new(alloc, name.text.as_bytes()))?;
+    let (shared, params) = parts;
     Ok(Sig {
         name: text,
         is_event: is_event(word),
@@ -52,10 +53,14 @@ pub fn interface_of(
 ) -> Result<Part, NoMemory>
     ensures { IfOk result (λ p. p ≡ parts.interface_of name.now params attrs items) }
 {
+    let (lists, name) = beside(
+        (params, items, attrs),
+        Name::new(alloc, name.text.as_bytes()),
+    )?;
     Ok(Part::Interface(Interface {
-        name: Name::new(alloc, name.text.as_bytes())?,
-        params,
-        items,
-        attrs,
+        name,
+        params: lists.0,
+        items: lists.1,
+        attrs: lists.2,
     }))
 }

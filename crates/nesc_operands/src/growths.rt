@@ -6,10 +6,10 @@ ghost use Rattle.nesc_tree.specs.Level as levels;
 ghost use Rattle.nesc_grammar.specs.Grammar as spec;
 ghost use Rattle.nesc_operands.specs.Operands as made;
 
-use crate::boxes::boxed_pair;
+use crate::boxes::{boxed_and_named, boxed_pair, boxed_three};
 use crate::operators::is_spelled;
 use nesc_tree::{Arguments, Expr, InOp, Operand, PostOp, level};
-use nm_base::{Boxed, List, Name, NoMemory, Token};
+use nm_base::{Boxed, List, Name, NoMemory, Token, beside};
 use std::alloc::Global;
 
 pub fn binary_operand(
@@ -81,8 +81,7 @@ pub fn choice_operand(
     ensures { IfOk result (λ x. x ≡ made.choice test then otherwise) }
 {
     let height = test.height.max(then.height.max(otherwise.height)) + 1;
-    let (first, second) = boxed_pair(alloc, test.expr, then.expr)?;
-    let third = Boxed::new(alloc, otherwise.expr)?;
+    let ((first, second), third) = boxed_three(alloc, (test.expr, then.expr), otherwise.expr)?;
     Ok(Operand {
         expr: Expr::Cond(first, second, third, test.from),
         from: test.from,
@@ -112,9 +111,9 @@ pub fn call_operand(alloc: Global, left: Operand, arguments: Arguments) -> Resul
     ensures { IfOk result (λ x. x ≡ spec.grown (spec.growth levels.postfix arguments.height (λ a from. e.CallFn a arguments.exprs from)) left) }
 {
     let height = left.height.max(arguments.height) + 1;
-    let first = Boxed::new(alloc, left.expr)?;
+    let (exprs, first) = beside(arguments.exprs, Boxed::new(alloc, left.expr))?;
     Ok(Operand {
-        expr: Expr::CallFn(first, arguments.exprs, left.from),
+        expr: Expr::CallFn(first, exprs, left.from),
         from: left.from,
         level: level::POSTFIX,
         height,
@@ -126,8 +125,7 @@ pub fn member_operand(alloc: Global, left: Operand, member: &Token) -> Result<Op
     ensures { IfOk result (λ x. x ≡ spec.grown (spec.growth levels.postfix 0 (λ a from. e.Member a member.now.text from)) left) }
 {
     let height = left.height + 1;
-    let name = Name::new(alloc, member.text.as_bytes())?;
-    let first = Boxed::new(alloc, left.expr)?;
+    let (first, name) = boxed_and_named(alloc, left.expr, member)?;
     Ok(Operand {
         expr: Expr::Member(first, name, left.from),
         from: left.from,
@@ -141,8 +139,7 @@ pub fn arrow_operand(alloc: Global, left: Operand, member: &Token) -> Result<Ope
     ensures { IfOk result (λ x. x ≡ spec.grown (spec.growth levels.postfix 0 (λ a from. e.Arrow a member.now.text from)) left) }
 {
     let height = left.height + 1;
-    let name = Name::new(alloc, member.text.as_bytes())?;
-    let first = Boxed::new(alloc, left.expr)?;
+    let (first, name) = boxed_and_named(alloc, left.expr, member)?;
     Ok(Operand {
         expr: Expr::Arrow(first, name, left.from),
         from: left.from,
@@ -225,6 +222,27 @@ fn is_signal(word: &Token) -> bool
     is_spelled(word, b"signal")
 }
 
+/// The names of an element and of its item.
+fn item_names(alloc: Global, element: &Token, item: &Token) -> Result<(Name, Name), NoMemory>
+    ensures { IfOk result (λ names. names ≡ (element.now.text, item.now.text)) }
+{
+    let element = Name::new(alloc, element.text.as_bytes())?;
+    beside(element, Name::new(alloc, item.text.as_bytes()))
+}
+
+/// What an item is called by: its parameter, and the names of its element and itself.
+fn called_by(
+    alloc: Global,
+    param: Option<Operand>,
+    element: &Token,
+    item: &Token,
+) -> Result<(Option<Boxed<Expr>>, (Name, Name)), NoMemory>
+    ensures { IfOk result (λ called. called ≡ (spec.value_of param, (element.now.text, item.now.text))) }
+{
+    let param = param_value(alloc, param)?;
+    beside(param, item_names(alloc, element, item))
+}
+
 /// `call` or `signal` of an item.
 pub fn item_operand(
     alloc: Global,
@@ -240,16 +258,17 @@ pub fn item_operand(
 {
     let height = param_height(&param).max(arguments.height) + 1;
     let signal = is_signal(word);
-    let element = Name::new(alloc, element.text.as_bytes())?;
-    let item = Name::new(alloc, item.text.as_bytes())?;
-    let param = param_value(alloc, param)?;
+    let (args, (param, (element, item))) = beside(
+        arguments.exprs,
+        called_by(alloc, param, element, item),
+    )?;
     Ok(Operand {
         expr: Expr::CallItem {
             signal,
             element,
             item,
             param,
-            args: arguments.exprs,
+            args,
             pos: word.pos,
         },
         from: word.pos,

@@ -11,7 +11,7 @@ use nesc_operands::precedence::begins_expr;
 use nesc_parse_exprs::expr;
 use nesc_parse_types::{Found, expect, is_comma, name};
 use nesc_tree::{Attr, AttrArg, Sort, TypeNames, ahead, level};
-use nm_base::{List, Token};
+use nm_base::{List, Token, beside};
 use std::alloc::Global;
 
 /// Whether an argument of an attribute begins with a token of this sort.
@@ -74,8 +74,8 @@ fn another_argument<'a>(
     requires { spare < 2 ^ 8 }
     ensures { Gives names.now result (form_in spare (grammar.applied so_far parts.another_argument) names.now ts.now) }
 {
-    let (_, rest) = expect(names, Sort::Comma, ts)?;
-    let (next, rest) = argument(alloc, names, spare, rest)?;
+    let (so_far, (_, rest)) = beside(so_far, expect(names, Sort::Comma, ts))?;
+    let (so_far, (next, rest)) = beside(so_far, argument(alloc, names, spare, rest))?;
     Ok((added(so_far, next)?, rest))
 }
 
@@ -130,7 +130,7 @@ fn arguments<'a>(
 {
     let (_, rest) = expect(names, Sort::LParen, ts)?;
     let (list, rest) = maybe_arguments(alloc, names, spare, rest)?;
-    let (_, rest) = expect(names, Sort::RParen, rest)?;
+    let (list, (_, rest)) = beside(list, expect(names, Sort::RParen, rest))?;
     Ok((list, rest))
 }
 
@@ -157,7 +157,7 @@ fn another_attribute<'a>(
     requires { spare < 2 ^ 8 }
     ensures { Gives names.now result (form_in spare (grammar.applied so_far parts.another_attribute) names.now ts.now) }
 {
-    let (next, rest) = attribute(alloc, names, spare, ts)?;
+    let (so_far, (next, rest)) = beside(so_far, attribute(alloc, names, spare, ts))?;
     Ok((added(so_far, next)?, rest))
 }
 

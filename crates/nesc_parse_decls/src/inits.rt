@@ -12,7 +12,7 @@ use nesc_operands::precedence::begins_expr;
 use nesc_parse_exprs::{expr, refused};
 use nesc_parse_types::{Found, Stop, expect, is_comma};
 use nesc_tree::{Init, Inits, Sort, TypeNames, ahead, level, same_sort};
-use nm_base::Token;
+use nm_base::{Token, beside};
 use std::alloc::Global;
 
 /// Whether an initialiser begins with a token of this sort.
@@ -80,8 +80,8 @@ fn another_init<'a>(
     requires room { 0 < spare }
     ensures { Gives names.now result (form_in spare (grammar.applied so_far spec.another_init) names.now ts.now) }
 {
-    let (_, rest) = expect(names, Sort::Comma, ts)?;
-    let (next, rest) = next_init(alloc, names, spare, rest)?;
+    let (so_far, (_, rest)) = beside(so_far, expect(names, Sort::Comma, ts))?;
+    let (so_far, (next, rest)) = beside(so_far, next_init(alloc, names, spare, rest))?;
     Ok((more_inits(so_far, next)?, rest))
 }
 
@@ -118,7 +118,7 @@ fn braced_inits<'a>(
 {
     let (_, rest) = expect(names, Sort::LBrace, ts)?;
     let (list, rest) = inits(alloc, names, spare, rest)?;
-    let (_, rest) = expect(names, Sort::RBrace, rest)?;
+    let (list, (_, rest)) = beside(list, expect(names, Sort::RBrace, rest))?;
     Ok((many_inits(list), rest))
 }
 

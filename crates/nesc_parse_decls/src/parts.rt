@@ -7,7 +7,7 @@ ghost use Rattle.nesc_tree.specs.declared.declarations.AttrArg.TheVariants as ar
 ghost use Rattle.nesc_parse_decls.specs.Parts as parts;
 
 use nesc_tree::{Attr, AttrArg, Init, Inits, Operand};
-use nm_base::{List, Name, NoMemory, Token};
+use nm_base::{List, Name, NoMemory, Token, beside};
 use std::alloc::Global;
 
 /// An initialiser that is an expression.
@@ -20,10 +20,8 @@ pub fn one_init(value: Operand) -> Init
 pub fn first_init(alloc: Global, first: Init) -> Result<Inits, NoMemory>
     ensures { IfOk result (λ l. l ≡ spec.first_init first) }
 {
-    let mut list = Vec::new(alloc);
-    list.push(first)?;
     Ok(Inits {
-        list: List::new(list),
+        list: single(alloc, first)?,
         ended: false,
     })
 }
@@ -35,14 +33,10 @@ pub fn more_inits(so_far: Inits, next: Option<Init>) -> Result<Inits, NoMemory>
     let Inits { list, .. } = so_far;
     match next {
         None => Ok(Inits { list, ended: true }),
-        Some(init) => {
-            let mut longer = list.into_vec();
-            longer.push(init)?;
-            Ok(Inits {
-                list: List::new(longer),
-                ended: false,
-            })
-        }
+        Some(init) => Ok(Inits {
+            list: added(list, init)?,
+            ended: false,
+        }),
     }
 }
 
@@ -70,10 +64,8 @@ pub fn value_argument(value: Operand) -> AttrArg
 pub fn attribute_of(alloc: Global, name: &Token, args: List<AttrArg>) -> Result<Attr, NoMemory>
     ensures { IfOk result (λ a. a ≡ parts.attribute_of name.now args) }
 {
-    Ok(Attr {
-        name: Name::new(alloc, name.text.as_bytes())?,
-        args,
-    })
+    let (args, name) = beside(args, Name::new(alloc, name.text.as_bytes()))?;
+    Ok(Attr { name, args })
 }
 
 pub fn no_list<T>(alloc: Global) -> List<T>

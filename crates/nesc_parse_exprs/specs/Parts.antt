@@ -8,6 +8,9 @@ use Rattle.nesc_tree.specs.Level as level
 use Rattle.nesc_tree.specs.Form.{Form}
 use Rattle.nesc_grammar.specs.Grammar as grammar
 
+abbrev pub next_argument : Form Operand
+next_argument = grammar.behind (grammar.one s.Comma) (grammar.expr level.assignment)
+
 abbrev pub another_argument : Form (Arguments → Arguments)
 another_argument = grammar.map grammar.pushed (grammar.behind (grammar.one s.Comma) (grammar.expr level.assignment))
 
@@ -43,3 +46,7 @@ port = grammar.behind (grammar.one s.LParen) (grammar.before (grammar.expr level
 
 abbrev pub port_value : Form Operand
 port_value = grammar.before (grammar.expr level.assignment) (grammar.one s.RParen)
+
+-- the operand of a cast, behind its type
+abbrev pub cast_inner : Form Operand
+cast_inner = grammar.behind (grammar.one s.RParen) (grammar.expr level.cast)

@@ -11,7 +11,7 @@ ghost use Rattle.nesc_parse_exprs.specs.Closed.{closed_form};
 use nesc_operands::precedence::admits_cast;
 use nesc_parse_types::{Found, Reader, expect};
 use nesc_tree::{Fields, Operand, Sort, TypeNames, level};
-use nm_base::Token;
+use nm_base::{Token, beside};
 use std::alloc::Global;
 
 /// Reads expressions, and the types in them by its reader.
@@ -42,8 +42,9 @@ impl<
         ensures fits { IfOk result (λ x. x.0.height ≤ self.now.reader.spare) }
     {
         let (inner, rest) = self.reader.nested_expr(least, ts)?;
-        let (_, rest) = expect(self.reader.names, closing, rest)?;
-        Ok((inner, rest))
+        let behind = expect(self.reader.names, closing, rest);
+        let (kept, (_, rest)) = beside(inner, behind)?;
+        Ok((kept, rest))
     }
 
     /// What is behind the `(` that a postfix expression begins with, and that expression.

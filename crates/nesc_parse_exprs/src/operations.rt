@@ -1,9 +1,9 @@
 //! Reading what goes on an expression (C99 6.5.2, 6.5.5 to 6.5.17).
 
-ghost use Rattle.std.specs.Prelude.{◌≡◌, ◌≤◌, ◌<◌, ◌^◌, IfOk, true, suc, length};
+ghost use Rattle.std.specs.Prelude.{◌≡◌, ◌≤◌, ◌<◌, ◌^◌, IfOk, IfErr, true, suc, length};
 ghost use Rattle.nesc_tree.specs.Sorts as sorts;
 ghost use Rattle.nesc_grammar.specs.Grammar as grammar;
-ghost use Rattle.nesc_parse_types.specs.Gives.{Gives, Nests, form_in};
+ghost use Rattle.nesc_parse_types.specs.Gives.{Fails, Gives, Nests, form_in};
 ghost use Rattle.nesc_parse_exprs.specs.Growing as growing;
 ghost use Rattle.nesc_parse_exprs.specs.Growing.{GivesGrowth, growth_of};
 ghost use Rattle.nesc_parse_exprs.specs.Turns.{climb_in};
@@ -15,7 +15,7 @@ use nesc_operands::operators::{assignment_of, infix_of, suffix_of};
 use nesc_operands::precedence::{goes_on, nests_behind};
 use nesc_parse_types::{Found, Stop, expect, name};
 use nesc_tree::{Fields, Operand, Sort, TypeNames, ahead, level};
-use nm_base::Token;
+use nm_base::{Token, beside};
 use std::alloc::Global;
 
 impl<
@@ -87,7 +87,7 @@ impl<
         ensures fits { IfOk result (λ x. (growth_of x.0).height ≤ self.now.reader.spare) }
     {
         let (then, rest) = self.then_value(ts)?;
-        let (other, rest) = self.other_value(rest)?;
+        let (then, (other, rest)) = beside(then, self.other_value(rest))?;
         Ok((Growing::Choice(then, other), rest))
     }
 
@@ -99,7 +99,8 @@ impl<
     {
         let (_, rest) = expect(self.reader.names, Sort::LBracket, ts)?;
         let (index, rest) = self.reader.nested_expr(level::COMMA, rest)?;
-        let (_, rest) = expect(self.reader.names, Sort::RBracket, rest)?;
+        let closing = expect(self.reader.names, Sort::RBracket, rest);
+        let (index, (_, rest)) = beside(index, closing)?;
         Ok((Growing::Index(index), rest))
     }
 
@@ -184,8 +185,22 @@ impl<
         requires fits { left.height ≤ self.now.reader.spare }
         ensures { Gives self.now.reader.names.now result (form_in self.now.reader.spare (grown_by left (grammar.operation sign)) self.now.reader.names.now ts.now) }
     {
-        let (growing, rest) = self.operation(sign, ts)?;
+        let (left, (growing, rest)) = beside(left, self.operation(sign, ts))?;
         Ok((grown(self.reader.alloc, left, growing)?, rest))
+    }
+
+    /// The operator ahead, where an operand of this height may be gone on with and a level is left for what nests.
+    fn sign_behind(&self, left: &Operand, ts: &'a [Token]) -> Result<Sort, Stop<'a>>
+        requires goes_on { grammar.is_operator (sorts.ahead self.now.reader.names.now ts.now) ≡ true }
+        ensures fits { IfOk result (λ _. left.now.height ≤ self.now.reader.spare) }
+        ensures open { IfOk result (λ x. step_in self.now.reader.spare left.now self.now.reader.names.now ts.now ≡ form_in self.now.reader.spare (grown_by left.now (grammar.operation x)) self.now.reader.names.now ts.now) }
+        ensures full { IfErr result (λ e. Fails e (step_in self.now.reader.spare left.now self.now.reader.names.now ts.now)) }
+    {
+        let sign = ahead(self.reader.names, ts);
+        if left.height > self.reader.spare || self.reader.is_full(nests_behind(sign)) {
+            return Err(Stop::Deep(ts));
+        }
+        Ok(sign)
     }
 
     /// One operator that goes on the operand; an operand that is too high is not gone on with.
@@ -194,11 +209,9 @@ impl<
         requires goes_on { grammar.is_operator (sorts.ahead self.now.reader.names.now ts.now) ≡ true }
         ensures { Gives self.now.reader.names.now result (step_in self.now.reader.spare left self.now.reader.names.now ts.now) }
     {
-        let sign = ahead(self.reader.names, ts);
-        if left.height > self.reader.spare || self.reader.is_full(nests_behind(sign)) {
-            return Err(Stop::Deep(ts));
-        }
-        self.longer(sign, left, ts)
+        let found = self.sign_behind(&left, ts);
+        let (kept, sign) = beside(left, found)?;
+        self.longer(sign, kept, ts)
     }
 
     /// The operand with all that goes on it, in an expression of at least this level.

@@ -19,7 +19,7 @@ use nesc_operands::operands::{
 use nesc_operands::precedence::nests_first;
 use nesc_parse_types::{Found, Stop, begins_type, expect, is_comma, name};
 use nesc_tree::{Arguments, Fields, Operand, Sort, TypeNames, ahead, level, same_sort};
-use nm_base::Token;
+use nm_base::{Token, beside};
 use std::alloc::Global;
 
 /// Whether a cast is behind a `(`, and no expression.
@@ -35,13 +35,22 @@ impl<
     O: Fn(Global, &TypeNames, usize, &Token, &'a [Token]) -> Found<'a, Operand>,
     F: Fn(Global, &TypeNames, usize, &'a [Token]) -> Found<'a, Fields>,
 > ExprReader<'_, E, O, F> {
+    /// The argument behind a comma.
+    #[tactic(auto, unfolding(nesc_tree::specs::Reading::read))]
+    fn next_argument(&self, ts: &'a [Token]) -> Found<'a, Operand>
+        requires nests { Nests self.now.reader.spare (E.pre self.now.reader.expr) (E.post self.now.reader.expr) (O.pre self.now.reader.opened) (O.post self.now.reader.opened) (F.pre self.now.reader.fields) (F.post self.now.reader.fields) }
+        ensures { Gives self.now.reader.names.now result (form_in self.now.reader.spare parts.next_argument self.now.reader.names.now ts.now) }
+    {
+        let (_, rest) = expect(self.reader.names, Sort::Comma, ts)?;
+        self.reader.nested_expr(level::ASSIGNMENT, rest)
+    }
+
     #[tactic(auto, unfolding(nesc_tree::specs::Reading::read))]
     fn another_argument(&self, so_far: Arguments, ts: &'a [Token]) -> Found<'a, Arguments>
         requires nests { Nests self.now.reader.spare (E.pre self.now.reader.expr) (E.post self.now.reader.expr) (O.pre self.now.reader.opened) (O.post self.now.reader.opened) (F.pre self.now.reader.fields) (F.post self.now.reader.fields) }
         ensures { Gives self.now.reader.names.now result (form_in self.now.reader.spare (grammar.applied so_far parts.another_argument) self.now.reader.names.now ts.now) }
     {
-        let (_, rest) = expect(self.reader.names, Sort::Comma, ts)?;
-        let (next, rest) = self.reader.nested_expr(level::ASSIGNMENT, rest)?;
+        let (so_far, (next, rest)) = beside(so_far, self.next_argument(ts))?;
         Ok((pushed(next, so_far)?, rest))
     }
 
@@ -76,7 +85,8 @@ impl<
         ensures { Gives self.now.reader.names.now result (form_in self.now.reader.spare parts.open_arguments self.now.reader.names.now ts.now) }
     {
         let (list, rest) = self.some_arguments(ts)?;
-        let (_, rest) = expect(self.reader.names, Sort::RParen, rest)?;
+        let closing = expect(self.reader.names, Sort::RParen, rest);
+        let (list, (_, rest)) = beside(list, closing)?;
         Ok((list, rest))
     }
 
@@ -125,7 +135,7 @@ impl<
         ensures { Gives self.now.reader.names.now result (form_in self.now.reader.spare (parts.item_behind item.now element.now word.now) self.now.reader.names.now ts.now) }
     {
         let (param, rest) = self.param(ts)?;
-        let (arguments, rest) = self.arguments(rest)?;
+        let (param, (arguments, rest)) = beside(param, self.arguments(rest))?;
         Ok((
             item_operand(self.reader.alloc, param, arguments, item, element, word)?,
             rest,
@@ -184,7 +194,7 @@ impl<
     {
         let (word, rest) = expect(self.reader.names, Sort::PortWrite, ts)?;
         let (port, rest) = self.port_of(rest)?;
-        let (value, rest) = self.port_value(rest)?;
+        let (port, (value, rest)) = beside(port, self.port_value(rest))?;
         Ok((
             port_write_operand(self.reader.alloc, word, port, value)?,
             rest,
@@ -202,6 +212,17 @@ impl<
         Ok((unary_operand(self.reader.alloc, token, inner)?, rest))
     }
 
+    /// The operand of a cast, with the `)` before it.
+    #[tactic(auto, unfolding(nesc_tree::specs::Reading::read))]
+    fn cast_inner(&self, ts: &'a [Token]) -> Found<'a, Operand>
+        requires nests { Nests self.now.reader.spare (E.pre self.now.reader.expr) (E.post self.now.reader.expr) (O.pre self.now.reader.opened) (O.post self.now.reader.opened) (F.pre self.now.reader.fields) (F.post self.now.reader.fields) }
+        ensures gives { Gives self.now.reader.names.now result (form_in self.now.reader.spare parts.cast_inner self.now.reader.names.now ts.now) }
+        ensures fits { IfOk result (λ x. x.0.height ≤ self.now.reader.spare) }
+    {
+        let (_, rest) = expect(self.reader.names, Sort::RParen, ts)?;
+        self.reader.nested_expr(level::CAST, rest)
+    }
+
     /// A cast, behind its `(`.
     #[tactic(auto, unfolding(nesc_tree::specs::Reading::read))]
     fn cast(&self, opening: &Token, ts: &'a [Token]) -> Found<'a, Operand>
@@ -209,8 +230,7 @@ impl<
         ensures { Gives self.now.reader.names.now result (form_in self.now.reader.spare (grammar.applied opening.now grammar.cast) self.now.reader.names.now ts.now) }
     {
         let (target, rest) = self.reader.cast_type(ts)?;
-        let (_, rest) = expect(self.reader.names, Sort::RParen, rest)?;
-        let (inner, rest) = self.reader.nested_expr(level::CAST, rest)?;
+        let (target, (inner, rest)) = beside(target, self.cast_inner(rest))?;
         Ok((
             cast_operand(self.reader.alloc, target, inner, opening)?,
             rest,
@@ -223,8 +243,7 @@ impl<
         requires nests { Nests self.now.reader.spare (E.pre self.now.reader.expr) (E.post self.now.reader.expr) (O.pre self.now.reader.opened) (O.post self.now.reader.opened) (F.pre self.now.reader.fields) (F.post self.now.reader.fields) }
         ensures { Gives self.now.reader.names.now result (form_in self.now.reader.spare (grammar.applied opening.now grammar.parens) self.now.reader.names.now ts.now) }
     {
-        let (inner, rest) = self.reader.nested_expr(level::COMMA, ts)?;
-        let (_, rest) = expect(self.reader.names, Sort::RParen, rest)?;
+        let (inner, rest) = self.closed(level::COMMA, Sort::RParen, ts)?;
         Ok((paren_operand(inner, opening), rest))
     }
 
@@ -249,7 +268,8 @@ impl<
         ensures { Gives self.now.reader.names.now result (form_in self.now.reader.spare (parts.size_type word.now opening.now) self.now.reader.names.now ts.now) }
     {
         let (measured, rest) = self.reader.cast_type(ts)?;
-        let (_, rest) = expect(self.reader.names, Sort::RParen, rest)?;
+        let closing = expect(self.reader.names, Sort::RParen, rest);
+        let (measured, (_, rest)) = beside(measured, closing)?;
         Ok((size_of_type(measured, word), rest))
     }
 

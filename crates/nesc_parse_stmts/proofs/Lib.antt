@@ -1,3 +1,4 @@
+pub mod Bodies
 pub mod Items
 pub mod Cases
 pub mod Levels

@@ -8,7 +8,7 @@ ghost use Rattle.nesc_parse_types.specs.Gives.{Gives, form_in};
 ghost use Rattle.nesc_simple_stmts.specs.Parts as parts;
 ghost use Rattle.nesc_parse_stmts.specs.Stmts.{cases_in, label_in, stmt_in};
 
-use crate::for_heads::for_head;
+use crate::for_heads::{for_head, for_with};
 use nesc_declarators::{begins_local, local};
 use nesc_parse_decls::{added, no_list};
 use nesc_parse_exprs::refused;
@@ -16,11 +16,11 @@ use nesc_parse_types::{Found, Stop, expect};
 use nesc_scopes::give_back;
 use nesc_simple_stmts::{
     atomic_stmt, begins_label, begins_stmt, block_stmt, boxed, break_out, case_stmt, case_value,
-    condition, deepens, default_stmt, do_stmt, do_test, empty, eval, for_stmt, give_answer, go_on,
-    if_stmt, in_switch, is_label, switch_stmt, while_stmt,
+    condition, deepens, default_stmt, do_stmt, do_test, empty, eval, give_answer, go_on, if_stmt,
+    in_switch, is_label, switch_stmt, while_stmt,
 };
 use nesc_tree::{Change, Jumps, Operand, Sort, Stmt, TypeNames, ahead, same_sort};
-use nm_base::{Boxed, List, Token};
+use nm_base::{Boxed, List, Token, beside};
 use std::alloc::Global;
 
 // Whether what stands in a block begins with a token of this sort, where labels may stand or may not.
@@ -199,8 +199,10 @@ fn choice<'a>(
     ensures gives { Gives names.old result (form_in spare (parts.choice jumps word.now test) names.old ts.now) }
     ensures back { names.new ≡ names.old }
 {
-    let (then, rest) = inner(alloc, names, spare, jumps, ts)?;
-    let (other, rest) = otherwise(alloc, names, spare, jumps, rest)?;
+    let then = inner(alloc, names, spare, jumps, ts);
+    let (test, (then, rest)) = beside(test, then)?;
+    let other = otherwise(alloc, names, spare, jumps, rest);
+    let (test, (then, (other, rest))) = beside(test, beside(then, other))?;
     Ok((if_stmt(word, test, then, other), rest))
 }
 
@@ -237,7 +239,8 @@ fn while_loop<'a>(
 {
     let (word, rest) = expect(names, Sort::While, ts)?;
     let (test, rest) = condition(alloc, names, spare, rest)?;
-    let (body, rest) = inner(alloc, names, spare, Jumps::BreakAndContinue, rest)?;
+    let body = inner(alloc, names, spare, Jumps::BreakAndContinue, rest);
+    let (test, (body, rest)) = beside(test, body)?;
     Ok((while_stmt(word, test, body), rest))
 }
 
@@ -255,7 +258,8 @@ fn do_loop<'a>(
 {
     let (word, rest) = expect(names, Sort::Do, ts)?;
     let (body, rest) = inner(alloc, names, spare, Jumps::BreakAndContinue, rest)?;
-    let (test, rest) = do_test(alloc, names, spare, rest)?;
+    let test = do_test(alloc, names, spare, rest);
+    let (body, (test, rest)) = beside(body, test)?;
     Ok((do_stmt(word, body, test), rest))
 }
 
@@ -310,7 +314,8 @@ fn switch<'a>(
 {
     let (word, rest) = expect(names, Sort::Switch, ts)?;
     let (value, rest) = condition(alloc, names, spare, rest)?;
-    let (body, rest) = boxed_switch_body(alloc, names, spare, jumps, rest)?;
+    let body = boxed_switch_body(alloc, names, spare, jumps, rest);
+    let (value, (body, rest)) = beside(value, body)?;
     Ok((switch_stmt(word, value, body), rest))
 }
 
@@ -409,7 +414,8 @@ fn case<'a>(
 {
     let (word, rest) = expect(names, Sort::Case, ts)?;
     let (value, rest) = case_value(alloc, names, spare, rest)?;
-    let (body, rest) = boxed_labelled(alloc, names, spare, jumps, rest)?;
+    let body = boxed_labelled(alloc, names, spare, jumps, rest);
+    let (value, (body, rest)) = beside(value, body)?;
     Ok((case_stmt(word, value, body), rest))
 }
 
@@ -560,8 +566,10 @@ fn open_for<'a>(
     ensures noted { all_taken_back changes.new.items names.new ≡ all_taken_back changes.old.items names.old }
 {
     let (head, rest) = for_head(alloc, names, changes, spare, ts)?;
-    let (body, rest) = inner(alloc, names, spare, Jumps::BreakAndContinue, rest)?;
-    Ok((for_stmt(head, body), rest))
+    for_with(
+        head,
+        inner(alloc, names, spare, Jumps::BreakAndContinue, rest),
+    )
 }
 
 #[cycle(statements)]

@@ -2,6 +2,7 @@
 
 ghost use Rattle.std.specs.Prelude.{◌≡◌, ◌<◌, ◌^◌};
 ghost use Rattle.nesc_tree.specs.Form.{goes};
+ghost use Rattle.nesc_tree.specs.declared.sorts.Sort.TheVariants as s;
 ghost use Rattle.nesc_grammar.specs.Grammar as grammar;
 ghost use Rattle.nesc_parse_types.specs.Gives.{Gives, Nests, form_in};
 
@@ -10,7 +11,7 @@ use crate::stop::{Found, Stop};
 use crate::type_parts::{enum_type, first_item, item_of, more_items};
 use crate::types::is_comma;
 use nesc_tree::{CastType, Fields, Item, Items, Operand, Sort, TypeNames, ahead, level, same_sort};
-use nm_base::{Name, Token};
+use nm_base::{Name, Token, beside};
 use std::alloc::Global;
 
 // Whether a comma may go on the constants.
@@ -69,13 +70,22 @@ impl<
         }
     }
 
+    /// The constant behind a comma, where one is there.
+    #[tactic(auto, unfolding(nesc_tree::specs::Reading::read))]
+    fn next_item(&self, ts: &'a [Token]) -> Found<'a, Option<Item>>
+        requires nests { Nests self.now.spare (E.pre self.now.expr) (E.post self.now.expr) (O.pre self.now.opened) (O.post self.now.opened) (F.pre self.now.fields) (F.post self.now.fields) }
+        ensures { Gives self.now.names.now result (form_in self.now.spare (grammar.behind (grammar.one s.Comma) grammar.some_item) self.now.names.now ts.now) }
+    {
+        let (_, rest) = expect(self.names, Sort::Comma, ts)?;
+        self.some_item(rest)
+    }
+
     #[tactic(auto, unfolding(nesc_tree::specs::Reading::read))]
     fn another_item(&self, so_far: Items, ts: &'a [Token]) -> Found<'a, Items>
         requires nests { Nests self.now.spare (E.pre self.now.expr) (E.post self.now.expr) (O.pre self.now.opened) (O.post self.now.opened) (F.pre self.now.fields) (F.post self.now.fields) }
         ensures { Gives self.now.names.now result (form_in self.now.spare (grammar.applied so_far grammar.another_item) self.now.names.now ts.now) }
     {
-        let (_, rest) = expect(self.names, Sort::Comma, ts)?;
-        let (next, rest) = self.some_item(rest)?;
+        let (so_far, (next, rest)) = beside(so_far, self.next_item(ts))?;
         Ok((more_items(so_far, next)?, rest))
     }
 
@@ -103,7 +113,7 @@ impl<
     {
         let (_, rest) = expect(self.names, Sort::LBrace, ts)?;
         let (items, rest) = self.items(rest)?;
-        let (_, rest) = expect(self.names, Sort::RBrace, rest)?;
+        let (items, (_, rest)) = beside(items, expect(self.names, Sort::RBrace, rest))?;
         Ok((items, rest))
     }
 
@@ -127,7 +137,7 @@ impl<
     {
         let (token, rest) = name(self.names, ts)?;
         let (items, rest) = self.some_items(rest)?;
-        let tag = Name::new(self.alloc, token.text.as_bytes())?;
+        let (items, tag) = beside(items, Name::new(self.alloc, token.text.as_bytes()))?;
         Ok((enum_type(self.alloc, Some(tag), items, keyword), rest))
     }
 

@@ -4,10 +4,10 @@ ghost use Rattle.std.specs.Prelude.{◌≡◌, ◌<◌, ◌^◌, IfOk};
 ghost use Rattle.nesc_grammar.specs.Grammar as spec;
 
 use nesc_tree::{
-    Base, CastType, Declarator, Declarators, Declared, Dims, EnumItem, FieldGroup, Fields, Grouped,
-    Item, Items, Operand, Qualifiers, TypeSpec, Width,
+    Base, CastType, Declarator, Declarators, Declared, Dims, EnumItem, Expr, FieldGroup, Fields,
+    Grouped, Item, Items, Operand, Qualifiers, TypeSpec, Width,
 };
-use nm_base::{IntType, List, Name, NoMemory, Pos, Token};
+use nm_base::{IntType, List, Name, NoMemory, Pos, Token, beside};
 use std::alloc::Global;
 
 /// The integer type of this width (C99 6.7.2).
@@ -104,32 +104,33 @@ pub fn enum_type(
     }
 }
 
+// The expression of a value and its height, where there is one.
+fn parts_of(value: Option<Operand>) -> (Option<Expr>, usize)
+    ensures { result ≡ (spec.value_of value, spec.height_of value) }
+{
+    match value {
+        None => (None, 0),
+        Some(operand) => {
+            let Operand { expr, height, .. } = operand;
+            (Some(expr), height)
+        }
+    }
+}
+
 /// A constant of an enum, with its value where it has one.
 pub fn item_of(alloc: Global, token: &Token, value: Option<Operand>) -> Result<Item, NoMemory>
     ensures { IfOk result (λ m. m ≡ spec.item_of token.now value) }
 {
-    let name = Name::new(alloc, token.text.as_bytes())?;
-    match value {
-        None => Ok(Item {
-            item: EnumItem {
-                name,
-                value: None,
-                pos: token.pos,
-            },
-            height: 0,
-        }),
-        Some(operand) => {
-            let Operand { expr, height, .. } = operand;
-            Ok(Item {
-                item: EnumItem {
-                    name,
-                    value: Some(expr),
-                    pos: token.pos,
-                },
-                height,
-            })
-        }
-    }
+    let (value, height) = parts_of(value);
+    let (value, name) = beside(value, Name::new(alloc, token.text.as_bytes()))?;
+    Ok(Item {
+        item: EnumItem {
+            name,
+            value,
+            pos: token.pos,
+        },
+        height,
+    })
 }
 
 pub fn first_item(alloc: Global, first: Item) -> Result<Items, NoMemory>
@@ -255,12 +256,9 @@ pub fn declared(alloc: Global, token: &Token, dims: Dims, stars: u8) -> Result<D
     ensures { IfOk result (λ d. d ≡ spec.declared token.now dims stars) }
 {
     let Dims { exprs, height } = dims;
+    let (dims, name) = beside(exprs, Name::new(alloc, token.text.as_bytes()))?;
     Ok(Declared {
-        declarator: Declarator {
-            stars,
-            name: Name::new(alloc, token.text.as_bytes())?,
-            dims: exprs,
-        },
+        declarator: Declarator { stars, name, dims },
         height: usize::from(stars).max(height),
     })
 }

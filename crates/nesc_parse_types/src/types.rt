@@ -14,7 +14,7 @@ use crate::type_parts::{
 use nesc_tree::{
     Base, CastType, Fields, Operand, Qualifiers, Sort, TypeNames, Width, ahead, same_sort,
 };
-use nm_base::{Name, Token};
+use nm_base::{Name, Token, beside};
 use std::alloc::Global;
 
 /// Whether a type begins with a token of this sort.
@@ -216,7 +216,7 @@ impl<
     {
         let (token, rest) = name(self.names, ts)?;
         let (fields, rest) = self.some_fields(rest)?;
-        let tag = Name::new(self.alloc, token.text.as_bytes())?;
+        let (fields, tag) = beside(fields, Name::new(self.alloc, token.text.as_bytes()))?;
         Ok((struct_type(self.alloc, Some(tag), fields, keyword), rest))
     }
 

@@ -66,7 +66,8 @@ stops rust.Memory b c ts y s e h = absurd s
 stops {X = X} (rust.Syntax us) b c ts y s e h = subst (λ (vs : List Token). ◌≡◌ {A = Answer X} y (Err (Syntax vs))) (sym s.1) (subst (λ (a : Bool). y ≡ Err (stop a ts)) (sym e ∙ s.0) h)
 stops {X = X} (rust.Deep us) b c ts y s e h = subst (λ (vs : List Token). ◌≡◌ {A = Answer X} y (Err (Deep vs))) (sym s.1) (subst (λ (a : Bool). y ≡ Err (stop a ts)) (sym e ∙ s.0) h)
 
-found_then : {A B : Type 0} (x : Answer A) (f : A × Place → Answer B) (a : A) (q : Place) → x ≡ Ok (a, q) → ◌≡◌ {A = Answer B} (x >>= f) (f (a, q))
+-- what was found goes on to what is behind it
+pub found_then : {A B : Type 0} (x : Answer A) (f : A × Place → Answer B) (a : A) (q : Place) → x ≡ Ok (a, q) → ◌≡◌ {A = Answer B} (x >>= f) (f (a, q))
 found_then x f a q h = rw h refl
 
 -- two forms, one behind the other
@@ -80,6 +81,9 @@ module _ {A B C : Type 0} (d : ℕ) (f : A → B → C) (g : Form A) (h : Form B
   in_two : reads (Form.seq f g h) p ≡ (reads g p >>= second)
   unfolding read
   in_two = refl
+
+  pub then_second : (a : A) (q : Place) → reads g p ≡ Ok (a, q) → reads (Form.seq f g h) p ≡ second (a, q)
+  then_second a q e = in_two ∙ found_then (reads g p) second a q e
 
   pub first_fails : (r : Stop) → Fails r (reads g p) → Fails r (reads (Form.seq f g h) p)
   first_fails r e = subst (Fails r) (sym in_two) (fails_with (reads g p) second r e)

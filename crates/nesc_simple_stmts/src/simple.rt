@@ -4,6 +4,7 @@ ghost use Rattle.std.specs.Prelude.{◌≡◌, ◌<◌, ◌^◌, ℕ};
 ghost use Rattle.nesc_tree.specs.Phrase as phrase;
 ghost use Rattle.nesc_tree.specs.Sorts.{ahead};
 ghost use Rattle.nesc_tree.specs.declared.sorts.Sort.TheVariants as sorts;
+ghost use Rattle.nesc_grammar.specs.Grammar as grammar;
 ghost use Rattle.nesc_grammar.specs.Statements as spec;
 ghost use Rattle.nesc_parse_types.specs.Gives.{Gives, form_in};
 ghost use Rattle.nesc_simple_stmts.specs.Parts as parts;
@@ -16,7 +17,7 @@ use nesc_operands::precedence::begins_expr;
 use nesc_parse_exprs::expr;
 use nesc_parse_types::{Found, Stop, expect};
 use nesc_tree::{ForStart, Jumps, Operand, Sort, Stmt, TypeNames, ahead, level};
-use nm_base::Token;
+use nm_base::{Token, beside};
 use std::alloc::Global;
 
 fn may_break(jumps: Jumps) -> bool
@@ -117,6 +118,24 @@ pub fn go_on<'a>(names: &TypeNames, jumps: Jumps, ts: &'a [Token]) -> Found<'a, 
     Ok((continue_stmt(word), rest))
 }
 
+/// An expression of at least this level, and the sign that ends it.
+#[tactic(auto, unfolding(nesc_tree::specs::Reading::read))]
+fn expr_before<'a>(
+    alloc: Global,
+    names: &TypeNames,
+    spare: usize,
+    least: u8,
+    end: Sort,
+    ts: &'a [Token],
+) -> Found<'a, Operand>
+    requires { spare < 2 ^ 8 }
+    ensures { Gives names.now result (form_in spare (grammar.before (grammar.expr least) (grammar.one end)) names.now ts.now) }
+{
+    let (value, rest) = expr(alloc, names, spare, least, ts)?;
+    let (value, (_, rest)) = beside(value, expect(names, end, rest))?;
+    Ok((value, rest))
+}
+
 /// An expression statement.
 #[tactic(auto, unfolding(nesc_tree::specs::Reading::read))]
 pub fn eval<'a>(alloc: Global, names: &TypeNames, spare: usize, ts: &'a [Token]) -> Found<'a, Stmt>
@@ -127,7 +146,7 @@ pub fn eval<'a>(alloc: Global, names: &TypeNames, spare: usize, ts: &'a [Token])
         return Err(Stop::Syntax(ts));
     }
     let (value, rest) = expr(alloc, names, spare, level::COMMA, ts)?;
-    let (_, rest) = expect(names, Sort::Semi, rest)?;
+    let (value, (_, rest)) = beside(value, expect(names, Sort::Semi, rest))?;
     Ok((eval_stmt(value), rest))
 }
 
@@ -162,7 +181,7 @@ fn ended_expr<'a>(
     ensures { Gives names.now result (form_in spare (parts.ended_expr end) names.now ts.now) }
 {
     let (found, rest) = some_expr(alloc, names, spare, ts)?;
-    let (_, rest) = expect(names, end, rest)?;
+    let (found, (_, rest)) = beside(found, expect(names, end, rest))?;
     Ok((found, rest))
 }
 
@@ -193,9 +212,7 @@ pub fn condition<'a>(
     ensures { Gives names.now result (form_in spare spec.condition names.now ts.now) }
 {
     let (_, rest) = expect(names, Sort::LParen, ts)?;
-    let (value, rest) = expr(alloc, names, spare, level::COMMA, rest)?;
-    let (_, rest) = expect(names, Sort::RParen, rest)?;
-    Ok((value, rest))
+    expr_before(alloc, names, spare, level::COMMA, Sort::RParen, rest)
 }
 
 /// What stands behind the body of a `do`.
@@ -211,7 +228,7 @@ pub fn do_test<'a>(
 {
     let (_, rest) = expect(names, Sort::While, ts)?;
     let (value, rest) = condition(alloc, names, spare, rest)?;
-    let (_, rest) = expect(names, Sort::Semi, rest)?;
+    let (value, (_, rest)) = beside(value, expect(names, Sort::Semi, rest))?;
     Ok((value, rest))
 }
 
@@ -226,9 +243,7 @@ pub fn case_value<'a>(
     requires { spare < 2 ^ 8 }
     ensures { Gives names.now result (form_in spare parts.case_value names.now ts.now) }
 {
-    let (value, rest) = expr(alloc, names, spare, level::CONDITIONAL, ts)?;
-    let (_, rest) = expect(names, Sort::Colon, rest)?;
-    Ok((value, rest))
+    expr_before(alloc, names, spare, level::CONDITIONAL, Sort::Colon, ts)
 }
 
 /// The test and the step of a `for`, with the signs behind them.
@@ -243,7 +258,8 @@ pub fn for_tests<'a>(
     ensures { Gives names.now result (form_in spare parts.for_tests names.now ts.now) }
 {
     let (test, rest) = ended_expr(alloc, names, spare, Sort::Semi, ts)?;
-    let (step, rest) = ended_expr(alloc, names, spare, Sort::RParen, rest)?;
+    let step = ended_expr(alloc, names, spare, Sort::RParen, rest);
+    let (test, (step, rest)) = beside(test, step)?;
     Ok((tests_of(test, step), rest))
 }
 
@@ -261,8 +277,7 @@ pub fn value_start<'a>(
     if !begins_expr(ahead(names, ts)) {
         return Err(Stop::Syntax(ts));
     }
-    let (value, rest) = expr(alloc, names, spare, level::COMMA, ts)?;
-    let (_, rest) = expect(names, Sort::Semi, rest)?;
+    let (value, rest) = expr_before(alloc, names, spare, level::COMMA, Sort::Semi, ts)?;
     Ok((eval_start(value), rest))
 }
 

@@ -12,7 +12,7 @@ use nesc_parse_decls::{added, attributes, no_list, single};
 use nesc_parse_exprs::type_form;
 use nesc_parse_types::{Found, expect, is_comma, name};
 use nesc_tree::{CastType, Elem, Sort, TypeNames, TypeSpec, ahead, same_sort};
-use nm_base::{List, Token};
+use nm_base::{List, Token, beside};
 use std::alloc::Global;
 
 #[tactic(auto, unfolding(nesc_tree::specs::Reading::read))]
@@ -49,8 +49,8 @@ fn another_argument<'a>(
     requires { spare < 2 ^ 8 }
     ensures { Gives names.now result (form_in spare (grammar.applied so_far parts.another_argument) names.now ts.now) }
 {
-    let (_, rest) = expect(names, Sort::Comma, ts)?;
-    let (next, rest) = argument(alloc, names, spare, rest)?;
+    let (so_far, (_, rest)) = beside(so_far, expect(names, Sort::Comma, ts))?;
+    let (so_far, (next, rest)) = beside(so_far, argument(alloc, names, spare, rest))?;
     Ok((added(so_far, next)?, rest))
 }
 
@@ -94,7 +94,7 @@ fn type_arguments<'a>(
     }
     let (_, rest) = expect(names, Sort::Less, ts)?;
     let (list, rest) = some_arguments(alloc, names, spare, rest)?;
-    let (_, rest) = expect(names, Sort::Greater, rest)?;
+    let (list, (_, rest)) = beside(list, expect(names, Sort::Greater, rest))?;
     Ok((list, rest))
 }
 
@@ -126,8 +126,8 @@ fn element_bracket<'a>(
     }
     let (_, rest) = expect(names, Sort::LBracket, ts)?;
     let (found, rest) = type_form(alloc, names, spare, rest)?;
-    let (_, rest) = name(names, rest)?;
-    let (_, rest) = expect(names, Sort::RBracket, rest)?;
+    let (found, (_, rest)) = beside(found, name(names, rest))?;
+    let (found, (_, rest)) = beside(found, expect(names, Sort::RBracket, rest))?;
     Ok((Some(found), rest))
 }
 
@@ -143,8 +143,8 @@ fn element_end<'a>(
     ensures { Gives names.now result (form_in spare parts.element_end names.now ts.now) }
 {
     let (found, rest) = element_bracket(alloc, names, spare, ts)?;
-    let (_, rest) = attributes(alloc, names, spare, rest)?;
-    let (_, rest) = expect(names, Sort::Semi, rest)?;
+    let (found, (_, rest)) = beside(found, attributes(alloc, names, spare, rest))?;
+    let (found, (_, rest)) = beside(found, expect(names, Sort::Semi, rest))?;
     Ok((type_in(found), rest))
 }
 
@@ -161,8 +161,8 @@ fn read_element<'a>(
 {
     let (interface, rest) = interface_name(names, ts)?;
     let (args, rest) = type_arguments(alloc, names, spare, rest)?;
-    let (token, rest) = named_as(names, interface, rest)?;
-    let (param, rest) = element_end(alloc, names, spare, rest)?;
+    let (args, (token, rest)) = beside(args, named_as(names, interface, rest))?;
+    let (args, (param, rest)) = beside(args, element_end(alloc, names, spare, rest))?;
     let element = element_of(alloc, provides, interface, args, token, param)?;
     Ok((element, rest))
 }

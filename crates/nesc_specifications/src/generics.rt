@@ -14,7 +14,7 @@ use nesc_parse_exprs::type_form;
 use nesc_parse_types::{Found, Stop, begins_type, expect, is_comma, name};
 use nesc_scopes::{declare_type, hide};
 use nesc_tree::{Change, GenericParam, Sort, TypeNames, ahead};
-use nm_base::{List, Token};
+use nm_base::{List, Token, beside};
 use std::alloc::Global;
 
 /// A name that is a type name from behind it.
@@ -80,7 +80,7 @@ fn value_param_form<'a>(
     ensures noted { all_taken_back changes.new.items names.new ≡ all_taken_back changes.old.items names.old }
 {
     let (shared, rest) = type_form(alloc, names, spare, ts)?;
-    let (token, rest) = hiding_name(names, changes, rest)?;
+    let (shared, (token, rest)) = beside(shared, hiding_name(names, changes, rest))?;
     Ok((value_param(alloc, shared, token)?, rest))
 }
 
@@ -139,8 +139,8 @@ fn another_param<'a>(
     ensures gives { Gives names.new result (form_in spare (grammar.applied so_far parts.another_parameter) names.old ts.now) }
     ensures noted { all_taken_back changes.new.items names.new ≡ all_taken_back changes.old.items names.old }
 {
-    let (_, rest) = expect(names, Sort::Comma, ts)?;
-    let (next, rest) = param(alloc, names, changes, spare, rest)?;
+    let (so_far, (_, rest)) = beside(so_far, expect(names, Sort::Comma, ts))?;
+    let (so_far, (next, rest)) = beside(so_far, param(alloc, names, changes, spare, rest))?;
     Ok((added(so_far, next)?, rest))
 }
 
@@ -213,7 +213,7 @@ fn generics_form<'a>(
 {
     let (_, rest) = expect(names, Sort::LParen, ts)?;
     let (list, rest) = maybe_params(alloc, names, changes, spare, rest)?;
-    let (_, rest) = expect(names, Sort::RParen, rest)?;
+    let (list, (_, rest)) = beside(list, expect(names, Sort::RParen, rest))?;
     Ok((list, rest))
 }
 

@@ -13,7 +13,7 @@ use crate::parts::{generic_of, head_of};
 use crate::specifications::elements;
 use nesc_parse_types::{Found, name};
 use nesc_tree::{Attr, Change, GenericParam, Head, Sort, TypeNames, ahead};
-use nm_base::{List, Token};
+use nm_base::{List, Token, beside};
 use std::alloc::Global;
 
 /// The attributes of a component or an interface, each of which takes a level.
@@ -80,8 +80,9 @@ fn read_head<'a>(
 {
     let (token, rest) = name(names, ts)?;
     let (params, rest) = some_generics(alloc, names, changes, spare, rest)?;
-    let (attrs, rest) = attributes(alloc, names, spare, rest)?;
-    let (elems, rest) = elements(alloc, names, spare, rest)?;
+    let (params, (attrs, rest)) = beside(params, attributes(alloc, names, spare, rest))?;
+    let (lists, (elems, rest)) = beside((params, attrs), elements(alloc, names, spare, rest))?;
+    let (params, attrs) = lists;
     let generic = generic_of(alloc, is_generic, params);
     Ok((head_of(alloc, token, generic, attrs, elems)?, rest))
 }

@@ -6,7 +6,7 @@ ghost use Rattle.nesc_specifications.specs.Parts as parts;
 
 use nesc_operands::operators::is_spelled;
 use nesc_tree::{Attr, CastType, Elem, GenericParam, Head, TypeSpec};
-use nm_base::{List, Name, NoMemory, Token};
+use nm_base::{List, Name, NoMemory, Token, beside};
 use std::alloc::Global;
 
 /// The list with another behind it.
@@ -37,6 +37,14 @@ pub fn type_in(found: Option<CastType>) -> Option<TypeSpec>
     }
 }
 
+// The texts of two tokens.
+fn two_texts(alloc: Global, first: &Token, second: &Token) -> Result<(Name, Name), NoMemory>
+    ensures { IfOk result (λ x. (x.0 ≡ first.now.text) × (x.1 ≡ second.now.text)) }
+{
+    let first = Name::new(alloc, first.text.as_bytes())?;
+    beside(first, Name::new(alloc, second.text.as_bytes()))
+}
+
 pub fn element_of(
     alloc: Global,
     provides: bool,
@@ -47,12 +55,13 @@ pub fn element_of(
 ) -> Result<Elem, NoMemory>
     ensures { IfOk result (λ e. e ≡ parts.element_of provides interface.now args name.now param) }
 {
+    let (types, texts) = beside((args, param), two_texts(alloc, interface, name))?;
     Ok(Elem {
         provides,
-        iface: Name::new(alloc, interface.text.as_bytes())?,
-        args,
-        name: Name::new(alloc, name.text.as_bytes())?,
-        param,
+        iface: texts.0,
+        args: types.0,
+        name: texts.1,
+        param: types.1,
         pos: name.pos,
     })
 }
@@ -71,8 +80,9 @@ pub fn type_param(alloc: Global, name: &Token) -> Result<GenericParam, NoMemory>
 pub fn value_param(alloc: Global, shared: CastType, name: &Token) -> Result<GenericParam, NoMemory>
     ensures { IfOk result (λ p. p ≡ parts.value_param shared name.now) }
 {
+    let (shared, name) = beside(shared, Name::new(alloc, name.text.as_bytes()))?;
     Ok(GenericParam {
-        name: Name::new(alloc, name.text.as_bytes())?,
+        name,
         ty: Some(shared.ty),
     })
 }
@@ -106,10 +116,14 @@ pub fn head_of(
 ) -> Result<Head, NoMemory>
     ensures { IfOk result (λ h. h ≡ parts.head_of name.now generic attrs elems) }
 {
+    let (lists, name) = beside(
+        (generic, elems, attrs),
+        Name::new(alloc, name.text.as_bytes()),
+    )?;
     Ok(Head {
-        name: Name::new(alloc, name.text.as_bytes())?,
-        generic,
-        elems,
-        attrs,
+        name,
+        generic: lists.0,
+        elems: lists.1,
+        attrs: lists.2,
     })
 }

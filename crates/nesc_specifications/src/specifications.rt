@@ -13,7 +13,7 @@ use crate::parts::{joined, provides};
 use nesc_parse_decls::{added, no_list, single};
 use nesc_parse_types::{Found, Stop, expect};
 use nesc_tree::{Elem, Sort, TypeNames, ahead};
-use nm_base::{List, Token};
+use nm_base::{List, Token, beside};
 use std::alloc::Global;
 
 fn is_interface(sort: Sort) -> bool
@@ -41,7 +41,7 @@ fn another_element<'a>(
     requires room { 0 < spare }
     ensures { Gives names.now result (form_in spare (grammar.applied so_far (parts.another_element provides)) names.now ts.now) }
 {
-    let (next, rest) = element(alloc, names, spare, provides, ts)?;
+    let (so_far, (next, rest)) = beside(so_far, element(alloc, names, spare, provides, ts))?;
     Ok((added(so_far, next)?, rest))
 }
 
@@ -82,7 +82,7 @@ fn element_block<'a>(
 {
     let (_, rest) = expect(names, Sort::LBrace, ts)?;
     let (list, rest) = some_elements(alloc, names, spare, provides, rest)?;
-    let (_, rest) = expect(names, Sort::RBrace, rest)?;
+    let (list, (_, rest)) = beside(list, expect(names, Sort::RBrace, rest))?;
     Ok((list, rest))
 }
 
@@ -165,7 +165,7 @@ fn another_specification<'a>(
     requires room { 1 < spare }
     ensures { Gives names.now result (form_in spare (grammar.applied so_far parts.another_specification) names.now ts.now) }
 {
-    let (more, rest) = specification(alloc, names, spare, ts)?;
+    let (so_far, (more, rest)) = beside(so_far, specification(alloc, names, spare, ts))?;
     Ok((joined(so_far, more)?, rest))
 }
 
@@ -204,6 +204,6 @@ pub fn elements<'a>(
 {
     let (_, rest) = expect(names, Sort::LBrace, ts)?;
     let (list, rest) = specifications(alloc, names, spare, rest)?;
-    let (_, rest) = expect(names, Sort::RBrace, rest)?;
+    let (list, (_, rest)) = beside(list, expect(names, Sort::RBrace, rest))?;
     Ok((list, rest))
 }

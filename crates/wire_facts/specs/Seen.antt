@@ -1,7 +1,8 @@
 -- What wires need to know of types and constants (nesC 1.3 Reference, sections 6 to 9; own: the order, and what is refused where).
 -- First come the types of headers, then the specifications of components that are not generic, each a fault of its own. Then the
 -- lines of each instance are looked at, up to the first that is refused: pairs stop there or before.
-use Rattle.std.specs.Prelude.{ℕ, ◌+◌, ◌&&◌, ℤ, int_le, Bool, true, false, cond, List, [], ◌∷◌, ◌++◌, length, map, set, Option, Some, None, Result, Ok, Err, is_some, slice_get, option_map, unwrap_or}
+use Rattle.std.specs.Prelude.{ℕ, ◌+◌, ℤ, Bool, true, false, cond, List, [], ◌∷◌, ◌++◌, length, map, set, Option, Some, None, Result, Ok, Err, is_some, slice_get, option_map, unwrap_or}
+use Rattle.std.specs.Ordering.{int_eq}
 use Rattle.nm_base.specs.declared.pos.Pos.{Pos}
 use Rattle.nm_base.specs.declared.fault.Fault.{Fault}
 use Rattle.nm_base.specs.declared.fault.Fault.TheVariants as fault
@@ -132,7 +133,7 @@ given env at (of_value e) = do
   give (a_constant (pos_of e) x)
 
 abbrev pub holds : IntType → ℤ → Bool
-holds t x = int_le (wrapped t x) x && int_le x (wrapped t x)
+holds t x = int_eq (wrapped t x) x
 
 -- a constant that the parameter's type holds
 abbrev pub ranged : Pos → IntType → ℤ → Rule Meaning
@@ -185,16 +186,16 @@ abbrev pub unseen : Seen
 unseen = record { scope = no_scope; elements = []; lines = [] }
 
 -- the specification of an instance, whose parameters are declared
-abbrev pub specified : Base → Env → Component → List Ty → Scope → Elab (Seen × List Ty)
-specified b env c types scope = do
-  x ← inside b scope (elements_told env types [] c.elements)
+abbrev pub specified : Base → Env → List Element → List Ty → Scope → Elab (Seen × List Ty)
+specified b env es types scope = do
+  x ← inside b scope (elements_told env types [] es)
   give (record { scope = x.1; elements = x.0.0; lines = [] }, x.0.1)
 
 -- the arguments, and then the specification of the instance that they make
-abbrev pub made_by : Base → (maker made : Env) → (line : Pos) → Component → List Param → List Arg → List Ty → Elab (Seen × List Ty)
-made_by b maker made line c params args types = do
-  scope ← params_declared b maker made c.at line params args no_scope
-  specified b made c types scope
+abbrev pub made_by : Base → (maker made : Env) → (at line : Pos) → List Element → List Param → List Arg → List Ty → Elab (Seen × List Ty)
+made_by b maker made at line es params args types = do
+  scope ← params_declared b maker made at line params args no_scope
+  specified b made es types scope
 
 -- ---- applications
 
@@ -234,7 +235,7 @@ survey seen types = record { seen = seen; types = types }
 -- the specification of an instance that is not generic
 abbrev pub single_specified : Base → Env → Component → (is_generic : Bool) → List Ty → Elab (Seen × List Ty)
 single_specified b env c true types = give (unseen, types)
-single_specified b env c false types = specified b env c types no_scope
+single_specified b env c false types = specified b env c.elements types no_scope
 
 abbrev pub with_next : Survey → Seen × List Ty → Survey
 with_next x found = survey (x.seen ++ found.0 ∷ []) found.1
@@ -280,7 +281,8 @@ abbrev pub with_seen : ℕ → Survey → Seen × List Ty → Survey
 with_seen k x found = survey (set x.seen k found.0) found.1
 
 abbrev pub instance_made : Application → Base → (maker made : ℕ) → (line : Pos) → List Ty → List Arg → Elab (Seen × List Ty)
-instance_made app b i k line types args = made_by b (env_of app i) (env_of app k) line (component_of app k) (unwrap_or (component_of app k).generic []) args types
+instance_made app b i k line types args =
+    made_by b (env_of app i) (env_of app k) (component_of app k).at line (component_of app k).elements (unwrap_or (component_of app k).generic []) args types
 
 abbrev pub new_instance : Application → Base → (maker : ℕ) → (line : Pos) → Survey → List Arg → Option ℕ → Elab Survey
 new_instance app b i line x args None = give x
@@ -375,23 +377,31 @@ lines_told app b i k (l ∷ ls) x st before = line_then before (line_told app b 
 abbrev pub seen_at : List Seen → (instance : ℕ) → Seen
 seen_at seen i = unwrap_or (slice_get seen i) unseen
 
--- a scope is in force once
-abbrev pub without_scope : List Seen → (instance : ℕ) → List Seen
-without_scope seen i = set seen i (record (seen_at seen i) { scope = no_scope })
-
 -- inside the instance's own scope, the implementation is one block
-abbrev pub instance_told : Application → Base → (instance : ℕ) → List Seen → Option Course → Told
-instance_told app b i seen None = told [] seen None
-instance_told app b i seen (Some c) =
-    lines_told app b i 0 (component_of app i).lines (survey (without_scope seen i) c.0) (with_own b (in_block b (seen_at seen i).scope) c.1) []
+abbrev pub instance_told : Application → Base → (instance : ℕ) → List Seen → Course → Told
+instance_told app b i seen c =
+    lines_told app b i 0 (component_of app i).lines (survey seen c.0) (with_own b (in_block b (seen_at seen i).scope) c.1) []
 
 abbrev pub with_lines : (instance : ℕ) → List LineFacts → List Seen → List Seen
 with_lines i lines seen = set seen i (record (seen_at seen i) { lines = lines })
 
--- the instances from one on
-abbrev pub instances_told : Application → Base → (instance : ℕ) → List Made → List Seen → Option Course → List Seen
-instances_told app b i [] seen course = seen
-instances_told app b i (m ∷ ms) seen course = (λ (t : Told). instances_told app b (i + 1) ms (with_lines i t.lines t.seen) t.course) (instance_told app b i seen course)
+-- what is seen of all instances, and the course behind them where no line is refused
+pub record Sight : Type 0 where
+  pub seen : List Seen
+  pub course : Option Course
+
+abbrev pub sight : List Seen → Option Course → Sight
+sight seen course = record { seen = seen; course = course }
+
+-- the instances from one on, up to the first line that is refused
+abbrev pub goes_on_to : List Seen → Option Course → (List Seen → Course → Sight) → Sight
+goes_on_to seen None next = sight seen None
+goes_on_to seen (Some c) next = next seen c
+
+abbrev pub instances_told : Application → Base → (instance : ℕ) → List Made → List Seen → Course → Sight
+instances_told app b i [] seen c = sight seen (Some c)
+instances_told app b i (m ∷ ms) seen c =
+    (λ (t : Told). goes_on_to (with_lines i t.lines t.seen) t.course (instances_told app b (i + 1) ms)) (instance_told app b i seen c)
 
 abbrev pub facts_in : Seen → InstanceFacts
 facts_in x = record { elements = x.elements; lines = x.lines }
@@ -401,13 +411,21 @@ facts_in x = record { elements = x.elements; lines = x.lines }
 abbrev pub start : State
 start = record { names = []; tags = []; first_name = 0; first_tag = 0; structs = []; locals = []; taken = []; asked = [] }
 
-abbrev pub all_told : Application → Base → Rule (Survey × State) → Rule (List InstanceFacts)
-all_told app b (Ok x) = Ok (map facts_in (instances_told app b 0 app.made x.0.seen (Some (x.0.types, x.1))))
+abbrev pub all_told : Application → Base → Rule (Survey × State) → Rule Sight
+all_told app b (Ok x) = Ok (instances_told app b 0 app.made x.0.seen (x.0.types, x.1))
 all_told app b (Err e) = Err e
 
-abbrev pub with_specifications : Application → Rule (Unit {0} × State) → Rule (List InstanceFacts)
+abbrev pub with_specifications : Application → Rule (Unit {0} × State) → Rule Sight
 with_specifications app (Ok x) = all_told app (base_of x.1) (singles_specified app (base_of x.1) 0 app.made (survey [] []) x.1)
 with_specifications app (Err e) = Err e
 
+-- headers, specifications, and then lines
+abbrev pub sight_of : Application → Rule Sight
+sight_of app = with_specifications app (headers_declared app.headers app.components start)
+
+abbrev pub facts_by : Rule Sight → Rule (List InstanceFacts)
+facts_by (Ok x) = Ok (map facts_in x.seen)
+facts_by (Err e) = Err e
+
 abbrev pub facts_of : Application → Rule (List InstanceFacts)
-facts_of app = with_specifications app (headers_declared app.headers app.components start)
+facts_of app = facts_by (sight_of app)

@@ -49,6 +49,17 @@ fn link_instances(alloc: Global, app: &Lookup, done: &mut Vec<Pair>) -> Result<(
     Ok(())
 }
 
+// The pairs of an application that is looked up.
+fn linked(alloc: Global, app: &Lookup) -> Result<Vec<Pair>, Stop>
+    ensures pairs { IfOk result (λ pairs. spec.pairs_of (app_of app.now) ≡ Ok pairs.items) }
+    ensures refused { (unlinked : UnlinkedOf) → result ≡ Err (Stop.Unlinked unlinked) → spec.pairs_of (app_of app.now) ≡ Err unlinked }
+{
+    let mut pairs = Vec::new(alloc);
+    link_boots(alloc, app, &mut pairs)?;
+    link_instances(alloc, app, &mut pairs)?;
+    Ok(pairs)
+}
+
 /// The pairs of ends that the wires of an application link, each in the direction of calls, by instance and place in the text.
 /// `units` are its files and `made` its instances in the order of their creation; `facts` tells of each instance the types of its
 /// elements and the constants of its lines. An application that is a module has each element that uses Boot linked to
@@ -64,8 +75,5 @@ pub fn pairs(
     ensures refused { (unlinked : UnlinkedOf) → result ≡ Err (Stop.Unlinked unlinked) → spec.pairs_of (record { units = units.now; made = made.now; facts = facts.now }) ≡ Err unlinked }
 {
     let app = Lookup::new(alloc, units, made, facts)?;
-    let mut pairs = Vec::new(alloc);
-    link_boots(alloc, &app, &mut pairs)?;
-    link_instances(alloc, &app, &mut pairs)?;
-    Ok(pairs)
+    linked(alloc, &app)
 }

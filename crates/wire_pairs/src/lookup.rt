@@ -9,7 +9,7 @@ ghost use Rattle.wire_pairs.specs.Makers.{same_line};
 use crate::facts::InstanceFacts;
 use crate::makers::{Makers, makers_of};
 use crate::tables::{singles_of, tables_of};
-use nm_base::NoMemory;
+use nm_base::{NoMemory, beside};
 use std::alloc::Global;
 use wire_instances::Made;
 use wire_names::Places;
@@ -45,8 +45,9 @@ impl<'u> Lookup<'u> {
         ensures facts { IfOk result (λ l. l.facts.now ≡ facts.now) }
     {
         let elements = tables_of(alloc, units)?;
-        let singles = singles_of(alloc, units, made)?;
-        let makers = makers_of(alloc, made)?;
+        let (elements, singles) = beside(elements, singles_of(alloc, units, made))?;
+        let (tables, makers) = beside((elements, singles), makers_of(alloc, made))?;
+        let (elements, singles) = tables;
         Ok(Lookup {
             units,
             made,

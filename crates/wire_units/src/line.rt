@@ -2,7 +2,7 @@
 
 ghost use Rattle.std.specs.Prelude.{◌≡◌, ◌++◌, Ok, Err, IfOk, OnOk};
 ghost use Rattle.wire_instances.specs.declared.plan.Unmet.{Unmet as UnmetOf};
-ghost use Rattle.wire_units.specs.Lines.{decl_in, given, asked, lines_of};
+ghost use Rattle.wire_units.specs.Lines.{decl_in, given, asked, lines_from, lines_of};
 
 use crate::block::Block;
 use crate::table::Table;
@@ -64,22 +64,36 @@ fn asked(alloc: Global, table: &Table, block: &mut Block, line: &ConfLine) -> Re
     }
 }
 
+// Adds what these lines ask of creation, up to the first that is refused.
 #[tactic(auto, using(crate::proofs::Lists::lines))]
+fn ask(
+    alloc: Global,
+    table: &Table,
+    block: &mut Block,
+    lines: &[ConfLine],
+    asks: &mut Vec<Line>,
+) -> Result<(), NoMemory>
+    ensures { OnOk result (asks.new.items ≡ asks.old.items ++ lines_from table.now.units.now block.old lines.now) }
+{
+    for line in lines {
+        match asked(alloc, table, block, line) {
+            Ok(asks_for) => asks.push(asks_for)?,
+            Err(Stop::Unmet(unmet)) => {
+                asks.push(Line::Refused(unmet))?;
+                return Ok(());
+            }
+            Err(Stop::Instances | Stop::NoMemory) => return Err(NoMemory),
+        }
+    }
+    Ok(())
+}
+
 /// What the lines of a configuration ask of creation, up to the first that is refused.
 pub fn lines_of(alloc: Global, table: &Table, lines: &[ConfLine]) -> Result<Vec<Line>, NoMemory>
     ensures { IfOk result (λ asks. asks.items ≡ lines_of table.now.units.now lines.now) }
 {
     let mut block = Block::new(alloc);
     let mut asks = Vec::new(alloc);
-    for line in lines {
-        match asked(alloc, table, &mut block, line) {
-            Ok(asks_for) => asks.push(asks_for)?,
-            Err(Stop::Unmet(unmet)) => {
-                asks.push(Line::Refused(unmet))?;
-                return Ok(asks);
-            }
-            Err(Stop::Instances | Stop::NoMemory) => return Err(NoMemory),
-        }
-    }
+    ask(alloc, table, &mut block, lines, &mut asks)?;
     Ok(asks)
 }

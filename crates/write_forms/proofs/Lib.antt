@@ -1,3 +1,4 @@
+pub mod Bodies
 pub mod Numerals
 pub mod Statements
 pub mod WordLists

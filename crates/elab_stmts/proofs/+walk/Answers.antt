@@ -5,7 +5,7 @@ use Rattle.elab_meaning.specs.View.{env_of, state_of}
 use Rattle.elab_pieces.specs.Flow.{labelled_of}
 use Rattle.body_meaning.specs.View.{stmt_of, stmts}
 use Rattle.elab_stmts.specs.Walk.{AreStmts, IsAdded, IsLabelled, IsStmt, branch_with_at, item_at, items_at, labelled_at, labelled_items_at, otherwise_at}
-use Rattle.elab_stmts.proofs.Forms.{atomic_arm, block_arm, block_cases_arm, branch_arm, break_arm, case_arm, case_stops, continue_arm, default_arm, default_stops, do_arm, empty_arm, eval_arm, for_arm, local_arm, plain_body_arm, plain_item_arm, return_arm, switch_arm, while_arm}
+use Rattle.elab_stmts.proofs.Forms.{atomic_arm, block_arm, block_cases_arm, branch_arm, break_arm, case_arm, case_stops, continue_arm, default_arm, default_stops, do_arm, empty_arm, eval_arm, for_arm, local_arm, plain_body_arm, plain_item_arm, refused_by, return_arm, switch_arm, while_arm}
 use Rattle.elab_stmts.proofs.Loops.{item_passed, item_failed, items_end, labelled_begins, labelled_passed, labelled_failed, labelled_ended}
 use Rattle.elab_stmts.proofs.Sizes.{sizes_next}
 use Rattle.elab_stmts.proofs.+walk.Goals as goal
@@ -129,7 +129,8 @@ switches::labelled_items-loop-x-preserved t c =
       smaller = omega (arith, n, c.loop-x.invariant.smaller);
     }
 
-pub walk::branch_with-returns-in_err-last : goal.walk::branch_with-returns-in_err-last
+pub walk::branch_with-returns-in_err-test : goal.walk::branch_with-returns-in_err-test
 unfolding IsStmt branch_with_at otherwise_at
-walk::branch_with-returns-in_err-last t c =
-    stops core_stmt_of c.from_residual.result c.in_err-last.field-0.0 _ _ c.from_residual.ensures (passes c.in_err-last.field-0.0 _ _ c.in_err-last.ensures)
+walk::branch_with-returns-in_err-test t c =
+    stops core_stmt_of c.from_residual.result c.in_err-test.field-0.0 _ _ c.from_residual.ensures
+    (passes c.in_err-test.field-0.0 _ _ (refused_by core_stmt_of c.otherwise.result c.in_err-test.field-0.0 _ _ c.in_err-test.ensures.refused c.otherwise.ensures))

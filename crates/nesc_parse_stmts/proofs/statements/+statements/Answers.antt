@@ -14,7 +14,8 @@ use Rattle.nesc_parse_stmts.specs.Stmts.{stmt_in, cases_in}
 use Rattle.nesc_tree.specs.declared.declarations.Stmt.{Stmt}
 use Rattle.nesc_tree.specs.declared.declarations.Stmt.TheVariants as st
 use Rattle.nesc_simple_stmts.specs.declared.heads.ForHead.{ForHead}
-use Rattle.nesc_simple_stmts.proofs.Guards.{through, first_fails, second_fails, both, ends_in, scope_gives}
+use Rattle.nesc_simple_stmts.proofs.Guards.{through, first_fails, scope_gives}
+use Rattle.nesc_parse_stmts.proofs.Bodies.{for_gives_with}
 use Rattle.nesc_parse_stmts.proofs.Cases.{opened, block_case, empty_case, return_case, break_case, continue_case, eval_case, too_deep, switch_sort, label_item, local_item, stmt_item, label_labelled, stmt_labelled, cases_body, stmt_body, no_else, else_case}
 use Rattle.nesc_parse_stmts.proofs.Levels.{stmt_stops, stmt_gives, cases_stop, cases_give, label_stops, label_gives, no_label}
 use Rattle.nesc_parse_stmts.proofs.Items.{AreFrom, items_at, items_begin, run, next_turn, ends, fails, falls, turn_is, another_at, another_fails, another_read}
@@ -192,14 +193,9 @@ pub open_for-returns-in_err-head-clause-gives : goal.open_for-returns-in_err-hea
 open_for-returns-in_err-head-clause-gives t c =
     through c.for_head.new.names c.from_residual.result c.in_err-head.field-0.0 (form_in c.args.spare parts.open_for c.args.names.now c.args.ts.now) c.from_residual.ensures (first_fails c.args.spare (λ (h : ForHead) (x : Stmt). st.For h.start h.test h.step x h.pos) parts.for_head spec.loop_body (place c.args.names.now c.args.ts.now) c.in_err-head.field-0.0 c.in_err-head.ensures.gives)
 
-pub open_for-returns-in_err-body-clause-gives : goal.open_for-returns-in_err-body-clause-gives
-open_for-returns-in_err-body-clause-gives t c =
-    through c.inner.new.names c.from_residual-in_err-body.result c.in_err-body.field-0.0 (form_in c.args.spare parts.open_for c.args.names.now c.args.ts.now) c.from_residual-in_err-body.ensures (second_fails c.args.spare (λ (h : ForHead) (x : Stmt). st.For h.start h.test h.step x h.pos) parts.for_head spec.loop_body (place c.args.names.now c.args.ts.now) c.in_ok-head.head (place c.for_head.new.names c.in_ok-head.rest.now) c.in_ok-head.ensures.gives c.in_err-body.field-0.0 c.in_err-body.ensures.gives)
-
 pub open_for-returns-clause-gives : goal.open_for-returns-clause-gives
 open_for-returns-clause-gives t c =
-    both c.args.spare (λ (h : ForHead) (x : Stmt). st.For h.start h.test h.step x h.pos) parts.for_head spec.loop_body (place c.args.names.now c.args.ts.now) c.in_ok-head.head (place c.for_head.new.names c.in_ok-head.rest.now) c.in_ok-head.ensures.gives c.in_ok-body.body (place c.for_head.new.names c.in_ok-body.rest.now) c.in_ok-body.ensures.gives
-    ∙ ends_in c.in_ok-body.rest.now (sym c.for_stmt.ensures) (sym c.inner.ensures.back)
+    for_gives_with c.args.spare c.args.names.now c.for_head.new.names c.inner.new.names c.args.ts.now c.in_ok-head.rest.now c.in_ok-head.head c.inner.result c.for_with.result c.in_ok-head.ensures.gives c.inner.ensures.gives c.for_with.ensures c.inner.ensures.back
 
 pub for_loop-returns-clause-gives : goal.for_loop-returns-clause-gives
 for_loop-returns-clause-gives t c =

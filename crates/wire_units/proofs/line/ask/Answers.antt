@@ -3,7 +3,7 @@ use Rattle.wire_instances.specs.declared.naming.Stop.TheVariants as stop
 use Rattle.wire_instances.specs.declared.plan.Line.TheVariants as line
 use Rattle.wire_units.specs.Lines.{asked}
 use Rattle.wire_units.proofs.Lists.{lines_next, refused_line}
-use Rattle.wire_units.proofs.line.lines_of.Goals as goal
+use Rattle.wire_units.proofs.line.ask.Goals as goal
 
 pub returns-in-Err-Unmet : goal.returns-in-Err-Unmet
 returns-in-Err-Unmet c =
