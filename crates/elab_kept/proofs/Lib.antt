@@ -1,0 +1,5 @@
+mod Steps
+mod Places
+mod Parts
+mod Walk
+mod Law
