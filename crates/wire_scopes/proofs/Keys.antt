@@ -1,6 +1,6 @@
 -- A type's key tells the type, so the place of its key among those of the types that were met is its number.
-use Rattle.std.proofs.Common.{◌≡◌, ℕ, zero, suc, ◌+◌, Bool, true, false, List, [], ◌∷◌, ◌++◌, length, map, Option, Some, None, refl, sym, ap, arith, ◌∙◌}
-use Rattle.std.specs.Prelude.{◌&&◌, ◌==◌, cond, nat_eq}
+use Rattle.std.proofs.Common.{◌≡◌, ℕ, ◌+◌, Bool, true, false, List, [], ◌∷◌, ◌++◌, length, map, Option, Some, None, refl, sym, subst, ap, arith, ◌∙◌}
+use Rattle.std.specs.Prelude.{◌&&◌, cond, nat_eq}
 use Rattle.std.specs.List.{list_any, position_or_len}
 use Rattle.std.proofs.lemmas.Bool.{eq-eqb, eqb-true}
 use Rattle.std.proofs.lemmas.Bool.Decides.{Decides-eqb, same_from_decides}
@@ -10,8 +10,8 @@ use Rattle.nm_base.specs.declared.int_type.IntType.TheVariants.{I8, U8, I16, U16
 use Rattle.nesc_core.specs.Plain.{Ty, void, int, pointer, array, struct}
 use Rattle.nesc_core.specs.Parts.{same_int, same_type}
 use Rattle.wire_names.specs.Texts.{same_text}
-use Rattle.wire_facts.specs.Seen.{added, numbered, place_of}
-use Rattle.wire_scopes.specs.Keys.{key_of, number_of}
+use Rattle.wire_facts.specs.Seen.{numbered, place_of}
+use Rattle.wire_scopes.specs.Keys.{AreKeys, int_numbered, key_of, number_of, typed, types_in}
 
 and-true : (b : Bool) → (b && true) ≡ b
 and-true true = refl
@@ -85,6 +85,27 @@ key-tells (struct j) (pointer u) = refl
 key-tells (struct j) (array u n) = refl
 key-tells (struct j) (struct k) = and-true (nat_eq j k) ∙ eq-turned j k
 
+-- ---- keys that are decoded
+
+int-typed : (t : IntType) → int_numbered (number_of t) ≡ t
+int-typed I8 = refl
+int-typed U8 = refl
+int-typed I16 = refl
+int-typed U16 = refl
+int-typed I32 = refl
+int-typed U32 = refl
+
+key-typed : (t : Ty) → typed (key_of t) ≡ t
+key-typed void = refl
+key-typed (int t) = ap int (int-typed t)
+key-typed (pointer t) = ap pointer (key-typed t)
+key-typed (array t n) = ap (λ u. array u n) (key-typed t)
+key-typed (struct k) = refl
+
+pub keys-typed : (ts : List Ty) → types_in (map key_of ts) ≡ ts
+keys-typed [] = refl
+keys-typed (t ∷ ts) = ap (λ u. u ∷ types_in (map key_of ts)) (key-typed t) ∙ ap (λ us. t ∷ us) (keys-typed ts)
+
 -- ---- places of keys
 
 recurs : (q : List ℕ → Bool) (y : List ℕ) (ys : List (List ℕ)) → position_or_len q (y ∷ ys) ≡ cond (q y) 0 (1 + position_or_len q ys)
@@ -135,4 +156,32 @@ module _ (t : Ty) where
     pub types-are : cond (list_any (same_text (key_of t)) (map key_of types)) (map key_of types) (map key_of types ++ key_of t ∷ []) ≡ map key_of (numbered types t).1
     types-are = types-by (list_any q (keys types)) refl
 
-pub ruleset keyed = (number-is, types-are)
+-- ---- tables of keys
+
+-- a table behind one more type, or none, is that of the types with this one
+with-number : (t : Ty) (before after : List (List ℕ)) → AreKeys before
+    → after ≡ cond (list_any (same_text (key_of t)) before) before (before ++ key_of t ∷ [])
+    → after ≡ map key_of (numbered (types_in before) t).1
+with-number t before after are is =
+    is ∙ (ap (λ ks. cond (list_any (same_text (key_of t)) ks) ks (ks ++ key_of t ∷ [])) are ∙ types-are t (types_in before))
+
+pub number-in : (t : Ty) (before : List (List ℕ)) (k : ℕ) → AreKeys before
+    → k ≡ position_or_len (same_text (key_of t)) before → k ≡ (numbered (types_in before) t).0
+number-in t before k are is = is ∙ (ap (position_or_len (same_text (key_of t))) are ∙ number-is t (types_in before))
+
+pub types-in : (t : Ty) (before after : List (List ℕ)) → AreKeys before
+    → after ≡ cond (list_any (same_text (key_of t)) before) before (before ++ key_of t ∷ [])
+    → types_in after ≡ (numbered (types_in before) t).1
+types-in t before after are is = ap types_in (with-number t before after are is) ∙ keys-typed (numbered (types_in before) t).1
+
+pub are-keys : (t : Ty) (before after : List (List ℕ)) → AreKeys before
+    → after ≡ cond (list_any (same_text (key_of t)) before) before (before ++ key_of t ∷ [])
+    → AreKeys after
+are-keys t before after are is =
+    with-number t before after are is ∙ ap (map key_of) (sym (types-in t before after are is))
+
+-- ones that stay
+pub stay-keys : (before after : List (List ℕ)) → AreKeys before → after ≡ before → AreKeys after
+stay-keys before after are is = subst AreKeys (sym is) are
+
+pub ruleset keyed = (number-in, types-in, are-keys, stay-keys)

@@ -1,0 +1,4 @@
+pub mod Cuts
+pub mod Loops
+pub mod Refusals
+pub mod Scopes
