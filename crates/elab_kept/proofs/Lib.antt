@@ -1,5 +1,5 @@
-mod Steps
-mod Places
-mod Parts
-mod Walk
-mod Law
+pub mod Steps
+pub mod Places
+pub mod Parts
+pub mod Walk
+pub mod Law

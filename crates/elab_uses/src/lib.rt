@@ -6,6 +6,6 @@ mod numbers;
 mod statements;
 mod uses;
 
-pub use numbers::{bodies_in, function_place, implementation_place};
+pub use numbers::{bodies_in, function_place, implementation_place, is_item_kind, is_task_kind};
 pub use statements::{in_decl, in_decls};
 pub use uses::is_used;

@@ -9,7 +9,8 @@ ghost use Rattle.program_meaning.specs.Numbers as spec;
 use nesc_tree::{Decl, FuncHead, FuncKind};
 use nm_base::Name;
 
-fn is_item_kind(kind: FuncKind) -> bool
+/// Whether it is a command or an event.
+pub fn is_item_kind(kind: FuncKind) -> bool
     ensures { result ≡ spec.is_item_kind kind }
 {
     match kind {
@@ -20,7 +21,8 @@ fn is_item_kind(kind: FuncKind) -> bool
     }
 }
 
-fn is_task_kind(kind: FuncKind) -> bool
+/// Whether it is a task.
+pub fn is_task_kind(kind: FuncKind) -> bool
     ensures { result ≡ spec.is_task_kind kind }
 {
     match kind {

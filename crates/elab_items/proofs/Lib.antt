@@ -1,0 +1,5 @@
+pub mod Meaning
+pub mod Headers
+pub mod Loops
+pub mod Quotes
+pub mod Scoped

@@ -1,0 +1,3 @@
+pub mod View
+pub mod Does
+pub mod Boot

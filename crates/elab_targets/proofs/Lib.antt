@@ -1,0 +1,10 @@
+pub mod Naming
+pub mod Pairs
+pub mod Keeping
+pub mod Defined
+pub mod Uses
+pub mod Behind
+pub mod Beginning
+pub mod TaskLists
+pub mod Reaching
+pub mod EachKind
