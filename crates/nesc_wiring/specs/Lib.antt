@@ -1,4 +1,1 @@
-pub mod Closed
-pub mod Faults
-pub mod Rows
-pub mod Wired
+pub mod Loads

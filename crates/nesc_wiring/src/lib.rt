@@ -1,16 +1,9 @@
-//! The phases behind reading: the instances of an application, its wires, and the paths along them.
+//! The wiring of an application from its files: its instances and pairs, or the first refusal of reading, of creation and of wires.
 #![tactic(auto)]
 
-mod creation;
-mod faults;
-mod network;
-mod phases;
-mod rows;
-mod telling;
+mod loading;
+mod teller;
+mod wiring;
 
-pub use creation::created;
-pub use faults::{creation_fault, wire_fault};
-pub use network::{Links, Network, closed, wired};
-pub use phases::linked;
-pub use rows::worked_rows;
-pub use telling::Telling;
+pub use loading::load;
+pub use wiring::Wiring;

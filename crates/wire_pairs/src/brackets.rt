@@ -55,7 +55,8 @@ fn value_at(greatest: Option<u16>, bracket: Option<Bracket>) -> Result<Option<u1
     }
 }
 
-fn is_before(a: Pos, b: Pos) -> bool
+/// Whether a place of a file stands before another one of the same file.
+pub fn is_before(a: Pos, b: Pos) -> bool
     ensures { result ≡ spec.is_before a b }
 {
     a.line < b.line || (a.line == b.line && a.col < b.col)

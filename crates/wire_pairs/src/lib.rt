@@ -16,6 +16,8 @@ mod seen;
 mod tables;
 
 pub use application::pairs;
+pub use brackets::is_before;
 pub use ends::{End, Pair};
 pub use facts::{Bracket, ElementFacts, InstanceFacts, LineFacts, Stop, Unlinked};
+pub use makers::{Makers, made_at, makers_of};
 pub use rows::worked_rows;

@@ -34,3 +34,10 @@ pub fn makers_of(alloc: Global, made: &[Made]) -> Result<Makers, NoMemory>
     }
     Ok(makers)
 }
+
+/// The instance that a line of an instance made.
+pub fn made_at(makers: &Makers, instance: usize, line: usize) -> Option<usize>
+    ensures { result ≡ get same_line makers.now (instance, line) }
+{
+    makers.get(&(instance, line)).copied()
+}

@@ -1,0 +1,4 @@
+pub mod Shapes
+pub mod Shares
+pub mod Cuts
+pub mod Loops

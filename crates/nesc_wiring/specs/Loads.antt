@@ -1,0 +1,54 @@
+-- An application from its files: they are read, its instances are created, what is told of types and constants is found, its wires
+-- are linked, and their paths followed; the first phase that refuses something tells it (own: the order of the phases).
+use Rattle.std.specs.Prelude.{◌≡◌, List, Option, Result, Ok, Err}
+use Rattle.nm_base.specs.declared.fault.Fault.{Fault}
+use Rattle.nm_base.specs.declared.fault.Fault.TheVariants as fault
+use Rattle.nesc_preproc.specs.Sources.{Known}
+use Rattle.wire_reading.specs.Order.{Name}
+use Rattle.wire_reading.specs.Told.{Told}
+use Rattle.wire_instances.specs.declared.plan.Made.{Made}
+use Rattle.wire_units.specs.declared.loaded.Loaded.{Loaded}
+use Rattle.wire_loading.specs.Opened.{Declaring, Held, Parsing, ReadsAs}
+use Rattle.wire_pairs.specs.declared.facts.InstanceFacts.{InstanceFacts}
+use Rattle.wire_pairs.specs.declared.ends.Pair.{Pair}
+use Rattle.wire_facts.specs.Components.{components_of}
+use Rattle.wire_facts.specs.Seen.{Application, facts_of}
+use Rattle.wire_envs.specs.Envs.{headers_told, instances_told}
+use Rattle.wire_phases.specs.Wired.{Phase, Telling, Wired, wired}
+use Rattle.wire_phases.specs.Closed.{Wires}
+
+-- each use of `unique` has its number
+abbrev pub application_of : List Loaded → List Made → Application
+application_of units made = record {
+  components = components_of units;
+  made = made;
+  headers = headers_told units made;
+  envs = instances_told units made;
+}
+
+abbrev pub tells : Telling
+tells units made = facts_of (application_of units made)
+
+-- what the preprocessor knows behind reading, and the instances and pairs
+pub record Wiring : Type 0 where
+  pub known : Option Known
+  pub wired : Wired
+
+abbrev pub wiring : Option Known → List Loaded → List Made → List InstanceFacts → List Pair → Wiring
+wiring known units made facts pairs = record { known = known; wired = wired units made facts pairs }
+
+-- the phases behind reading
+abbrev pub Behind : Result Held Fault → Phase Wiring → Type 0
+Behind (Ok held) (Ok w) = (w.known ≡ held.known) × Wires tells held.units (Ok w.wired)
+Behind (Ok held) (Err e) = Wires tells held.units (Err e)
+Behind (Err e) answer = answer ≡ Err e
+
+-- the instances and pairs of an application whose files hold what is told and are parsed so, or its first refusal
+abbrev pub Loads : Declaring → Parsing → Told → Name → Phase Wiring → Type 0
+Loads Declares Parses told app answer = (read : Phase Held) × ReadsAs Declares Parses told app read × Behind read answer
+
+-- no file is missing, and none cannot be read
+abbrev pub IsInside : Fault → Type 0
+IsInside fault.ReadFault = ⊥
+IsInside (fault.Missing name) = ⊥
+IsInside _ = Unit {0}

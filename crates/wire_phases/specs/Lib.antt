@@ -1,0 +1,4 @@
+pub mod Closed
+pub mod Faults
+pub mod Rows
+pub mod Wired

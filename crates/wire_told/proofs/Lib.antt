@@ -1,0 +1,4 @@
+pub mod Found
+pub mod Said
+pub mod Steps
+pub mod Takes
