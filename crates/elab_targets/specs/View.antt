@@ -3,7 +3,7 @@ use Rattle.std.specs.Prelude.{List, map, flat_map}
 use Rattle.nesc_core.specs.View.{type_of}
 use Rattle.nesc_tree.specs.declared.components.Sig as sig
 use Rattle.nesc_tree.specs.View.{spec_of}
-use Rattle.elab_meaning.specs.View.{unique_of, unique_count_of}
+use Rattle.elab_meaning.specs.View.{struct_of, unique_of, unique_count_of}
 use Rattle.body_meaning.specs.Tree.{Decl}
 use Rattle.body_meaning.specs.View.{decl_of, param_of}
 use Rattle.program_meaning.specs.Parts as p
@@ -67,5 +67,6 @@ application_of app = record {
   headers = headers_of app;
   uniques = map unique_of app.uniques;
   counts = map unique_count_of app.counts;
+  structs = map struct_of app.structs.items;
   instances = map instance_of app.instances.items;
 }

@@ -1,6 +1,6 @@
 //! What elaboration is given: the declarations of headers and modules, the instances of modules, and what their wires reach.
 
-use elab_meaning::{Unique, UniqueCount};
+use elab_meaning::{Struct, Unique, UniqueCount};
 use nesc_core::CoreType;
 use nesc_tree::{Decl, Sig, TypeSpec};
 use nesc_types::Constant;
@@ -56,11 +56,14 @@ pub struct Instance<'u> {
     pub decls: &'u [Decl],
 }
 
-/// The declarations of each header in reading order, the numbers of `unique` in them, how often each text is used, and the instances.
+/// The declarations of each header in reading order, the numbers of `unique` in them, and how often each text is used; the structs that were
+/// met behind those of headers where types stand in wires, in the order in which their definitions ended; and the instances. What is given
+/// to instances names structs by that order: those that headers declare outside functions, and then these.
 #[derive(Drop)]
 pub struct Application<'u> {
     pub headers: Vec<&'u [Decl]>,
     pub uniques: List<Unique>,
     pub counts: List<UniqueCount>,
+    pub structs: Vec<Struct>,
     pub instances: Vec<Instance<'u>>,
 }

@@ -7,4 +7,4 @@ mod functions;
 mod variables;
 mod walk;
 
-pub use walk::declarations;
+pub use walk::{declaration, declarations};

@@ -31,7 +31,8 @@ fn declared_type(
     Ok(())
 }
 
-fn declaration(alloc: Global, m: &ModuleTold, whole: &mut Whole, d: &Decl) -> Result<(), Fault>
+/// One declaration, as `declarations` tells.
+pub fn declaration(alloc: Global, m: &ModuleTold, whole: &mut Whole, d: &Decl) -> Result<(), Fault>
     ensures { (t : Told) → Tells m.now t → Does (λ _. tt) result (whole_of whole.new) (spec.declaration t (decl_of d.now) (whole_of whole.old)) }
 {
     match d {

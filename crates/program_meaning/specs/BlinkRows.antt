@@ -36,6 +36,7 @@ application = record {
   headers = built_in.prelude ++ trees.timer_header;
   uniques = [];
   counts = record { text = codes "\"TimerMilliC\""; count = 3 } ∷ [];
+  structs = [];
   instances =
       instance (codes "BlinkAppC") [] []
       ∷ instance (codes "MainC") (elem true (codes "Boot") built_in.boot (end 2 4 ∷ []) (place 3 1 35) ∷ elem false (codes "SoftwareInit") built_in.init (end 6 0 ∷ []) (place 3 1 64) ∷ []) built_in.main

@@ -7,7 +7,7 @@ use Rattle.nesc_core.specs.Plain.{Ty}
 use Rattle.nesc_tree.specs.Plain.{TypeSpec}
 use Rattle.nesc_types.specs.Values.{Constant}
 use Rattle.wire_targets.specs.declared.end.End.{End}
-use Rattle.elab_meaning.specs.Scope.{Unique, UniqueCount}
+use Rattle.elab_meaning.specs.Scope.{Struct, Unique, UniqueCount}
 use Rattle.body_meaning.specs.Tree as tree
 use Rattle.body_meaning.specs.Tree.{Decl}
 
@@ -61,9 +61,12 @@ pub record Instance : Type 0 where
   pub uniques : List Unique
   pub decls : List Decl
 
--- the declarations of headers in reading order, the numbers of `unique` in them, and how often each text is used
+-- the declarations of headers in reading order, the numbers of `unique` in them, and how often each text is used; and the structs that were
+-- met behind those of headers where types stand in wires, in the order in which their definitions ended. What is given to instances, and
+-- the fields of these structs, name structs by that order: those that headers declare outside functions, and then these
 pub record Application : Type 0 where
   pub headers : List Decl
   pub uniques : List Unique
   pub counts : List UniqueCount
+  pub structs : List Struct
   pub instances : List Instance

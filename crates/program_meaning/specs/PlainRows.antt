@@ -24,6 +24,7 @@ application name decls = record {
   headers = built_in.prelude;
   uniques = [];
   counts = [];
+  structs = [];
   instances =
       instance name (elem false (codes "Boot") built_in.boot (end 1 0 ∷ []) (at 1 40) ∷ []) decls
       ∷ instance (codes "MainC") (elem true (codes "Boot") built_in.boot (end 0 0 ∷ []) (place 3 1 35) ∷ elem false (codes "SoftwareInit") built_in.init [] (place 3 1 64) ∷ []) built_in.main

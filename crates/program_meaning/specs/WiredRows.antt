@@ -24,6 +24,7 @@ application modules = record {
   headers = built_in.prelude;
   uniques = [];
   counts = [];
+  structs = [];
   instances =
       instance (codes "AppC") [] []
       ∷ instance (codes "MainC") (elem true (codes "Boot") built_in.boot (end 2 0 ∷ []) (place 3 1 35) ∷ elem false (codes "SoftwareInit") built_in.init [] (place 3 1 64) ∷ []) built_in.main
