@@ -20,6 +20,7 @@ pub mod InstanceTrees
 pub mod InstanceRows
 pub mod BlinkTrees
 pub mod BlinkRows
+pub mod StructRows
 pub mod LimitRows
 pub mod CombineTrees
 pub mod CombineRows

@@ -1,6 +1,6 @@
 -- The headers and the instances of modules one behind the other: what is told to each, and its scopes (own: headers, then parameters and
 -- elements, then the implementation).
-use Rattle.std.specs.Prelude.{ℕ, suc, ◌+◌, ◌∸◌, Bool, false, not, List, [], ◌∷◌, ◌++◌, length, map, codes, Option, Some, None, slice_get, unwrap_or, bytes_eq, Ok}
+use Rattle.std.specs.Prelude.{ℕ, suc, ◌+◌, ◌-◌, Bool, false, not, List, [], ◌∷◌, ◌++◌, length, map, codes, Option, Some, None, slice_get, unwrap_or, bytes_eq, Ok}
 use Rattle.std.specs.List.{filter, filter_map, list_any, range_with_len}
 use Rattle.nesc_core.specs.Plain.{Field, Ty, void, int, pointer, array, struct}
 use Rattle.elab_meaning.specs.Scope.{Env, Struct}
@@ -88,7 +88,7 @@ abbrev pub met : List ℕ → ℕ → Met
 met headers behind = record { headers = headers; behind = behind }
 
 abbrev pub number_of : Met → ℕ → ℕ
-number_of m k = unwrap_or (slice_get m.headers k) (m.behind + (k ∸ length m.headers))
+number_of m k = unwrap_or (slice_get m.headers k) (m.behind + (k - length m.headers))
 
 abbrev pub type_as : Met → Ty → Ty
 type_as m void = void
@@ -117,9 +117,9 @@ structs_met m xs = λ w. Ok (tt, record w { work = record w.work { structs = w.w
 
 -- the numbers of the structs of a declaration that is no function
 abbrev pub declared_by : Decl → (before behind : ℕ) → List ℕ
-declared_by (tree.typedef name t attrs at) before behind = range_with_len before (behind ∸ before)
-declared_by (tree.type_only t at) before behind = range_with_len before (behind ∸ before)
-declared_by (tree.variables t norace vs) before behind = range_with_len before (behind ∸ before)
+declared_by (tree.typedef name t attrs at) before behind = range_with_len before (behind - before)
+declared_by (tree.type_only t at) before behind = range_with_len before (behind - before)
+declared_by (tree.variables t norace vs) before behind = range_with_len before (behind - before)
 declared_by (tree.function h body) before behind = []
 
 abbrev pub headers_declared : Told → List Decl → Made (List ℕ)

@@ -12,6 +12,7 @@ returns c = record {
   instances = record { initial_values = refl; generic_instances = refl; given_values = refl };
   timers = record { blink = refl };
   combined = record { refused = refl; not_needed = refl; found = refl; lost = refl };
+  structs = record { given_structs = refl };
   limits = record { most_tasks = refl; too_many_tasks = refl; most_bytes = refl; too_many_bytes = refl };
   refused = record { statements = refl; handlers = refl; prototypes = refl; types = refl; items = refl };
 }
