@@ -74,13 +74,14 @@ types_of (Err e) = Err e
 
 -- the function's own struct stands between A and C
 abbrev pub expected : Types
-expected =
-    (struct 2 ∷ struct 3 ∷ [],
-    (field (codes "a") (int I16) ∷ [])
-    ∷ (field (codes "b") (int I16) ∷ [])
-    ∷ (field (codes "c") (int I32) ∷ [])
-    ∷ (field (codes "d") (pointer (struct 2)) ∷ [])
-    ∷ [])
+expected = (
+  struct 2 ∷ struct 3 ∷ [],
+  (field (codes "a") (int I16) ∷ [])
+      ∷ (field (codes "b") (int I16) ∷ [])
+      ∷ (field (codes "c") (int I32) ∷ [])
+      ∷ (field (codes "d") (pointer (struct 2)) ∷ [])
+      ∷ [],
+)
 
 pub record StructRows : Type 0 where
   pub given_structs : types_of (wired given) ≡ Ok expected
