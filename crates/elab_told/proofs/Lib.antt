@@ -1,0 +1,4 @@
+pub mod OwnNames
+pub mod Parameters
+pub mod Tellings
+pub mod Used

@@ -1,0 +1,4 @@
+pub mod Environments
+pub mod Given
+pub mod Uses
+pub mod View
