@@ -1,0 +1,5 @@
+mod Each
+mod Found
+mod Named
+mod Parts
+mod Told

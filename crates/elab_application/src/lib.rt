@@ -1,0 +1,20 @@
+//! What elaboration is given: the declarations, the instances and the wires of an application that is wired.
+#![tactic(auto)]
+
+mod arguments;
+mod components;
+mod counts;
+mod elements;
+mod ends;
+mod given;
+mod ground;
+mod headers;
+mod instances;
+mod interfaces;
+mod routes;
+mod rows;
+mod seen;
+mod structs;
+
+pub use given::application;
+pub use rows::worked_rows;
