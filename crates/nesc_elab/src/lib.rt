@@ -2,5 +2,7 @@
 #![tactic(auto)]
 
 mod application;
+mod elaboration;
 
 pub use application::wired;
+pub use elaboration::elaborate;
