@@ -1,5 +1,5 @@
 -- Reading, and the phases behind it.
-use Rattle.std.proofs.Common.{◌≡◌, ℕ, refl, sym, ap, subst, List, Option, Result, Ok, Err, IfOk, IfErr}
+use Rattle.std.proofs.Common.{◌≡◌, ℕ, refl, sym, ap, subst, List, Option, Result, Ok, Err}
 use Rattle.nm_base.specs.declared.fault.Fault.{Fault}
 use Rattle.nm_base.specs.declared.fault.Fault.TheVariants as fault
 use Rattle.nm_base.specs.Outside.{FilesSeen}
@@ -11,7 +11,9 @@ use Rattle.wire_instances.specs.declared.plan.Made.{Made}
 use Rattle.wire_units.specs.declared.loaded.Loaded.{Loaded}
 use Rattle.wire_pairs.specs.declared.facts.InstanceFacts.{InstanceFacts}
 use Rattle.wire_pairs.specs.declared.ends.Pair.{Pair}
-use Rattle.wire_loading.specs.Opened.{Declaring, Held, Parsing, held, ReadsAs}
+use Rattle.wire_loading.specs.declared.stopped.Stopped.{Stopped}
+use Rattle.wire_loading.specs.Opened.{Declaring, Held, Parsing, answer_of, held, ReadsAs, stopped}
+use Rattle.wire_loading.proofs.Outside.{given, refused}
 use Rattle.wire_phases.specs.Wired.{wired}
 use Rattle.wire_phases.specs.Closed.{Wires}
 use Rattle.nesc_wiring.specs.Loads.{tells, wiring, Loads, IsInside}
@@ -24,29 +26,25 @@ module _ (Declares : Declaring) (Parses : Parsing) (told : Told) (app : Name) wh
 
   pub refused_behind : (known : Option Known) (names : Names) (units : List Loaded) (e : Fault)
       → ReadsAs Declares Parses told app (Ok (held known names units)) → Wires tells units (Err e)
-      → Loads Declares Parses told app (Err e)
-  refused_behind known names units e read wires = (Ok (held known names units), read, wires)
+      → Loads Declares Parses told app (Err (stopped e known))
+  refused_behind known names units e read wires = (Ok (held known names units), read, (refl, wires))
 
-  pub refused_in_reading : (e : Fault) → ReadsAs Declares Parses told app (Err e) → Loads Declares Parses told app (Err e)
-  refused_in_reading e read = (Err e, read, refl)
+  pub refused_in_reading : (s : Stopped) → ReadsAs Declares Parses told app (Err s) → Loads Declares Parses told app (Err s)
+  refused_in_reading s read = (Err s, read, refl)
 
--- the same, where what was read is carried past the phases behind
-pub loads_as : (Declares : Declaring) (Parses : Parsing) (told : Told) (app : Name) (known as_known : Option Known) (names : Names) (units as_units slice : List Loaded)
-    (made : List Made) (facts : List InstanceFacts) (pairs : List Pair) → as_known ≡ known → as_units ≡ units → slice ≡ units
+-- the same, where the phases behind were given a view of what was read
+pub loads_as : (Declares : Declaring) (Parses : Parsing) (told : Told) (app : Name) (known : Option Known) (names : Names) (units slice : List Loaded)
+    (made : List Made) (facts : List InstanceFacts) (pairs : List Pair) → slice ≡ units
     → ReadsAs Declares Parses told app (Ok (held known names units)) → Wires tells slice (Ok (wired slice made facts pairs))
-    → Loads Declares Parses told app (Ok (wiring as_known as_units made facts pairs))
-loads_as Declares Parses told app known as_known names units as_units slice made facts pairs k u s read wires =
-    subst (λ (o : Option Known). Loads Declares Parses told app (Ok (wiring o as_units made facts pairs))) (sym k)
-    (subst (λ (us : List Loaded). Loads Declares Parses told app (Ok (wiring known us made facts pairs))) (sym u)
-    (loads Declares Parses told app known names units made facts pairs read (subst (λ (us : List Loaded). Wires tells us (Ok (wired us made facts pairs))) s wires)))
+    → Loads Declares Parses told app (Ok (wiring known units made facts pairs))
+loads_as Declares Parses told app known names units slice made facts pairs s read wires =
+    loads Declares Parses told app known names units made facts pairs read (subst (λ (us : List Loaded). Wires tells us (Ok (wired us made facts pairs))) s wires)
 
 pub refused_as_read : (Declares : Declaring) (Parses : Parsing) (told : Told) (app : Name) (known : Option Known) (names : Names) (units slice : List Loaded) (e : Fault) → slice ≡ units
-    → ReadsAs Declares Parses told app (Ok (held known names units)) → Wires tells slice (Err e) → Loads Declares Parses told app (Err e)
+    → ReadsAs Declares Parses told app (Ok (held known names units)) → Wires tells slice (Err e)
+    → Loads Declares Parses told app (Err (stopped e known))
 refused_as_read Declares Parses told app known names units slice e s read wires =
     refused_behind Declares Parses told app known names units e read (subst (λ (us : List Loaded). Wires tells us (Err e)) s wires)
-
-pub ok_is : {A E : Type 0} (r : Result A E) (x : A) (P : A → Type 0) → r ≡ Ok x → IfOk r P → P x
-ok_is r x P is h = subst (λ q. IfOk q P) is h
 
 -- ---- the outside, which no phase behind reading touches
 
@@ -66,15 +64,8 @@ abbrev fault_in : {A : Type 0} → Result A Fault → Fault
 fault_in (Ok x) = fault.NoMemory
 fault_in (Err e) = e
 
-pub untouched : {A B : Type 0} (x : A) (r : Result B Fault) (old new : FilesSeen) → Counts (Ok x) old new → IfErr r IsInside → Counts r old new
-untouched x (Ok y) old new c inside = record {
-  same = c.same;
-  faults_kept = c.faults_kept;
-  misses_kept = c.misses_kept;
-  read_fault = λ is. absurd cc;
-  missing = tt;
-}
-untouched {A} {B} x (Err e) old new c inside = record {
+untouched : {A B : Type 0} (x : A) (e : Fault) (old new : FilesSeen) → Counts (Ok x) old new → IsInside e → Counts {A = B} (Err e) old new
+untouched {A} {B} x e old new c inside = record {
   same = c.same;
   faults_kept = c.faults_kept;
   misses_kept = c.misses_kept;
@@ -82,4 +73,14 @@ untouched {A} {B} x (Err e) old new c inside = record {
   missing = not_missing B e _ inside;
 }
 
-pub ruleset phases = (loads, refused_behind, refused_in_reading, untouched)
+module _ {A B : Type 0} (q : Result A Stopped) (old new : FilesSeen) where
+  pub loaded_outside : (x : A) (y : B) → q ≡ Ok x → Counts (answer_of q) old new → Counts {A = B} (Ok y) old new
+  loaded_outside x y is c = given A B (answer_of q) x y old new (ap (λ (t : Result A Stopped). answer_of t) is) c
+
+  pub refused_outside : (x : A) (e : Fault) → q ≡ Ok x → IsInside e → Counts (answer_of q) old new → Counts {A = B} (Err e) old new
+  refused_outside x e is inside c = untouched x e old new (subst (λ (r : Result A Fault). Counts r old new) (ap (λ (t : Result A Stopped). answer_of t) is) c) inside
+
+  pub stopped_outside : (r : Result B Stopped) (s : Stopped) → q ≡ Err s → r ≡ Err s → Counts (answer_of q) old new → Counts (answer_of r) old new
+  stopped_outside r s is so c = subst (λ (t : Result B Stopped). Counts (answer_of t) old new) (sym so) (refused A B (answer_of q) s.fault old new (ap (λ (t : Result A Stopped). answer_of t) is) c)
+
+pub ruleset phases = (loads, refused_behind, refused_in_reading)

@@ -8,13 +8,14 @@ use Rattle.wire_reading.specs.Order.{Name}
 use Rattle.wire_reading.specs.Told.{Told}
 use Rattle.wire_instances.specs.declared.plan.Made.{Made}
 use Rattle.wire_units.specs.declared.loaded.Loaded.{Loaded}
+use Rattle.wire_loading.specs.declared.stopped.Stopped.{Stopped}
 use Rattle.wire_loading.specs.Opened.{Declaring, Held, Parsing, ReadsAs}
 use Rattle.wire_pairs.specs.declared.facts.InstanceFacts.{InstanceFacts}
 use Rattle.wire_pairs.specs.declared.ends.Pair.{Pair}
 use Rattle.wire_facts.specs.Components.{components_of}
 use Rattle.wire_facts.specs.Seen.{Application, facts_of}
 use Rattle.wire_envs.specs.Envs.{headers_told, instances_told}
-use Rattle.wire_phases.specs.Wired.{Phase, Telling, Wired, wired}
+use Rattle.wire_phases.specs.Wired.{Telling, Wired, wired}
 use Rattle.wire_phases.specs.Closed.{Wires}
 
 -- each use of `unique` has its number
@@ -37,15 +38,16 @@ pub record Wiring : Type 0 where
 abbrev pub wiring : Option Known → List Loaded → List Made → List InstanceFacts → List Pair → Wiring
 wiring known units made facts pairs = record { known = known; wired = wired units made facts pairs }
 
--- the phases behind reading
-abbrev pub Behind : Result Held Fault → Phase Wiring → Type 0
+-- the phases behind reading, which read no file: what is known behind their refusal is what was known before
+abbrev pub Behind : Result Held Stopped → Result Wiring Stopped → Type 0
 Behind (Ok held) (Ok w) = (w.known ≡ held.known) × Wires tells held.units (Ok w.wired)
-Behind (Ok held) (Err e) = Wires tells held.units (Err e)
-Behind (Err e) answer = answer ≡ Err e
+Behind (Ok held) (Err s) = (s.reading ≡ held.known) × Wires tells held.units (Err s.fault)
+Behind (Err s) answer = answer ≡ Err s
 
--- the instances and pairs of an application whose files hold what is told and are parsed so, or its first refusal
-abbrev pub Loads : Declaring → Parsing → Told → Name → Phase Wiring → Type 0
-Loads Declares Parses told app answer = (read : Phase Held) × ReadsAs Declares Parses told app read × Behind read answer
+-- the instances and pairs of an application whose files hold what is told and are parsed so, or its first refusal with what is
+-- known there
+abbrev pub Loads : Declaring → Parsing → Told → Name → Result Wiring Stopped → Type 0
+Loads Declares Parses told app answer = (read : Result Held Stopped) × ReadsAs Declares Parses told app read × Behind read answer
 
 -- no file is missing, and none cannot be read
 abbrev pub IsInside : Fault → Type 0

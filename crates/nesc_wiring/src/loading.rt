@@ -8,14 +8,16 @@ ghost use Rattle.wire_paths.specs.declared.wires.Way.TheVariants as way;
 ghost use Rattle.wire_paths.specs.Wires.{wires_of};
 ghost use Rattle.wire_phases.specs.Wired.{wired};
 ghost use Rattle.wire_phases.specs.Closed.{Wires};
+ghost use Rattle.wire_loading.specs.declared.stopped.Stopped.{Stopped as StoppedOf};
+ghost use Rattle.wire_loading.specs.Opened.{answer_of};
 ghost use Rattle.nesc_wiring.specs.Loads as spec;
 ghost use Rattle.nesc_wiring.specs.Loads.{Loads, IsInside};
 
 use crate::teller::Teller;
 use crate::wiring::Wiring;
-use nm_base::{Fault, Files, Name, beside};
+use nm_base::{Fault, Files, Name};
 use std::alloc::Global;
-use wire_loading::{Loader, UnitParser, read_application};
+use wire_loading::{Loader, Stopped, UnitParser, read_application};
 use wire_phases::{Network, closed};
 use wire_units::Loaded;
 
@@ -46,27 +48,29 @@ fn network_of(alloc: Global, units: &[Loaded]) -> Result<Network, Fault>
 
 /// Reads the files of an application with this parser and wires it: its instances and pairs, with its wires in both directions. Refuses at the
 /// first phase that finds something, at the first place of that phase: reading, creation, types and constants that wires need to
-/// know, wires, paths. A file that is missing, or that cannot be read, is told as such.
+/// know, wires, paths. A file that is missing, or that cannot be read, is told as such. With the refusal come the files that were
+/// read by then, in which its place has the number of one.
 #[tactic(auto, using(crate::proofs::Behind::phases))]
 pub fn load<F: Files, P: UnitParser>(
     alloc: Global,
     files: &mut F,
     parser: P,
     app: &Name,
-) -> Result<Wiring, Fault>
-    ensures outside { Counts result (F.seen files.old) (F.seen files.new) }
+) -> Result<Wiring, Stopped>
+    ensures outside { Counts (answer_of result) (F.seen files.old) (F.seen files.new) }
     ensures loaded { (told : Told) → (F.seen files.old).texts ≡ Some told → IfOk result (λ w. Loads P.Declares P.Parses told app.now (Ok (spec.wiring w.reading w.units.items w.links.made.items w.links.facts.items w.links.pairs.items))) }
     ensures calls { IfOk result (λ w. w.nets.calls.wires.items ≡ wires_of way.Calls w.links.pairs.items) }
     ensures signals { IfOk result (λ w. w.nets.signals.wires.items ≡ wires_of way.Signals w.links.pairs.items) }
-    ensures refused { (told : Told) → (F.seen files.old).texts ≡ Some told → (fault : FaultOf) → result ≡ Err fault → IsRefusal fault → Loads P.Declares P.Parses told app.now (Err fault) }
+    ensures refused { (told : Told) → (F.seen files.old).texts ≡ Some told → (stopped : StoppedOf) → result ≡ Err stopped → IsRefusal stopped.fault → Loads P.Declares P.Parses told app.now (Err stopped) }
 {
     let Loader { reading, units, .. } = read_application(alloc, files, parser, app)?;
-    let network = network_of(alloc, units.as_slice());
-    let ((reading, units), Network { links, nets }) = beside((reading, units), network)?;
-    Ok(Wiring {
-        reading,
-        units,
-        links,
-        nets,
-    })
+    match network_of(alloc, units.as_slice()) {
+        Ok(Network { links, nets }) => Ok(Wiring {
+            reading,
+            units,
+            links,
+            nets,
+        }),
+        Err(fault) => Err(Stopped { fault, reading }),
+    }
 }

@@ -1,5 +1,5 @@
 -- What opening a file gives, from what its steps give.
-use Rattle.std.proofs.Common.{◌≡◌, ℕ, refl, sym, ap, subst, ◌∙◌, List, [], ◌∷◌, ◌++◌, Option, Some, Result, Ok, Err}
+use Rattle.std.proofs.Common.{◌≡◌, ℕ, refl, sym, ap, subst, ◌∙◌, List, [], ◌∷◌, ◌++◌, Option, Some, Result, Ok, Err, OnOk}
 use Rattle.nm_base.specs.declared.token.Token.{Token}
 use Rattle.nm_base.specs.declared.fault.Fault.{Fault}
 use Rattle.nesc_tree.specs.declared.components.Unit.{Unit as UnitOf}
@@ -11,9 +11,10 @@ use Rattle.wire_units.specs.declared.loaded.Loaded.{Loaded}
 use Rattle.wire_reading.specs.declared.opener.Need.{Need}
 use Rattle.wire_reading.specs.Order.{Name, Reads, Refuses}
 use Rattle.wire_reading.specs.Told.{Told}
+use Rattle.wire_loading.specs.declared.stopped.Stopped.{Stopped}
 use Rattle.wire_loading.specs.Needs.{needs_of, file_of}
 use Rattle.wire_loading.specs.Places.{file_told}
-use Rattle.wire_loading.specs.Opened.{Held, held, loaded, declared, Parsing, Declaring, Opens, Begins, ReadsAs, prelude, main}
+use Rattle.wire_loading.specs.Opened.{Held, held, loaded, declared, Parsing, Declaring, Opens, Begins, ReadsAs, prelude, main, stopped}
 
 module _ (Parses : Parsing) (told : Told) (s : Held) (need : Need) where
   -- the file by its name
@@ -80,12 +81,12 @@ module _ (Declares : Declaring) (told : Told) where
   pub fails_to_declare : (old known : Option Known) (file : Name) (ts : List Token) (none names : Names) (k : ℕ) (q : Result (List Decl) Fault) (e : Fault)
       → Expands told old file (Ok ts) known → Declares k ts none names q
       → old ≡ Some nothing_known → file ≡ prelude → none ≡ [] → k ≡ file_told ts known file → q ≡ Err e
-      → Begins Declares told (Err e)
+      → Begins Declares told (Err (stopped e known))
   fails_to_declare old known file ts none names k q e expands declares nothing at empty number is =
       (known, Ok ts, begins_as old known file (Ok ts) nothing at expands, (names, Err e, declares_as known file ts none names k q (Err e) empty at number is declares, refl))
 
   pub fails_to_begin : (old known : Option Known) (file : Name) (e : Fault)
-      → Expands told old file (Err e) known → old ≡ Some nothing_known → file ≡ prelude → Begins Declares told (Err e)
+      → Expands told old file (Err e) known → old ≡ Some nothing_known → file ≡ prelude → Begins Declares told (Err (stopped e known))
   fails_to_begin old known file e expands nothing at = (known, Err e, begins_as old known file (Err e) nothing at expands, refl)
 
 -- ---- an application
@@ -97,10 +98,24 @@ module _ (Declares : Declaring) (Parses : Parsing) (told : Told) (app : Name) (s
       (Ok s, begun, subst (λ (n : Name). Reads (Opens Parses told) n main s after) is_app (subst (λ (n : Name). Reads (Opens Parses told) name n s after) is_main read))
 
   pub refuses : (name last : Name) (e : Fault) → Begins Declares told (Ok s) → Refuses (Opens Parses told) name last s e after
-      → name ≡ app → last ≡ main → ReadsAs Declares Parses told app (Err e)
+      → name ≡ app → last ≡ main → ReadsAs Declares Parses told app (Err (stopped e after.known))
   refuses name last e begun refused is_app is_main =
-      (Ok s, begun, (after, subst (λ (n : Name). Refuses (Opens Parses told) n main s e after) is_app (subst (λ (n : Name). Refuses (Opens Parses told) name n s e after) is_main refused)))
+      (Ok s, begun, (after, subst (λ (n : Name). Refuses (Opens Parses told) n main s e after) is_app (subst (λ (n : Name). Refuses (Opens Parses told) name n s e after) is_main refused), refl))
 
-pub refuses_first : (Declares : Declaring) (Parses : Parsing) (told : Told) (app : Name) (e : Fault)
+pub refuses_first : (Declares : Declaring) (Parses : Parsing) (told : Told) (app : Name) (e : Stopped)
     → Begins Declares told (Err e) → ReadsAs Declares Parses told app (Err e)
 refuses_first Declares Parses told app e begun = (Err e, begun, refl)
+
+-- ---- answers
+
+pub on_ok : {A E : Type 0} (r : Result A E) (P Q : Type 0) → (P → Q) → OnOk r P → OnOk r Q
+on_ok (Ok x) P Q f h = f h
+on_ok (Err e) P Q f h = tt
+
+abbrev stop_in : {A : Type 0} → Stopped → Result A Stopped → Stopped
+stop_in s (Ok x) = s
+stop_in s (Err t) = t
+
+-- one refusal is the other
+pub stopped_as : (A : Type 0) (P : Stopped → Type 0) (s t : Stopped) → ◌≡◌ {A = Result A Stopped} (Err s) (Err t) → P s → P t
+stopped_as A P s t same h = subst P (ap (stop_in s) same) h

@@ -15,6 +15,7 @@ use Rattle.wire_reading.specs.Order.{Name, Opening}
 use Rattle.wire_reading.specs.Order as order
 use Rattle.wire_reading.specs.Told.{Told}
 use Rattle.wire_units.specs.declared.loaded.Loaded.{Loaded}
+use Rattle.wire_loading.specs.declared.stopped.Stopped.{Stopped}
 use Rattle.wire_loading.specs.Needs.{needs_of, file_of}
 use Rattle.wire_loading.specs.Places.{name_place, file_told, first_place}
 
@@ -52,6 +53,17 @@ Opens Parses told s need found after =
     × Expands told s.known (file_of need.name) tokens known
     × Scanned Parses s need known tokens found after
 
+-- ---- where reading stops
+
+-- why an application is refused, and what the preprocessor knows there
+abbrev pub stopped : Fault → Option Known → Stopped
+stopped e known = record { fault = e; reading = known }
+
+-- the answer without what is known
+abbrev pub answer_of : {A : Type 0} → Result A Stopped → Result A Fault
+answer_of (Ok x) = Ok x
+answer_of (Err s) = Err s.fault
+
 -- ---- the prelude, file 0, which declares before all
 
 abbrev pub Declaring : Type 1
@@ -63,18 +75,18 @@ prelude = codes "prelude"
 abbrev pub declared : List Decl → Loaded
 declared decls = record { unit = record { decls = decls; part = part.Header }; at = first_place [] }
 
-abbrev pub Declared : Option Known → Names → Result (List Decl) Fault → Result Held Fault → Type 0
+abbrev pub Declared : Option Known → Names → Result (List Decl) Fault → Result Held Stopped → Type 0
 Declared known names (Ok decls) answer = answer ≡ Ok (held known names (declared decls ∷ []))
-Declared known names (Err e) answer = answer ≡ Err e
+Declared known names (Err e) answer = answer ≡ Err (stopped e known)
 
-abbrev pub Preluded : Declaring → Option Known → Result (List Token) Fault → Result Held Fault → Type 0
+abbrev pub Preluded : Declaring → Option Known → Result (List Token) Fault → Result Held Stopped → Type 0
 Preluded Declares known (Ok ts) answer =
     (names : Names) × (decls : Result (List Decl) Fault)
     × Declares (file_told ts known prelude) ts [] names decls × Declared known names decls answer
-Preluded Declares known (Err e) answer = answer ≡ Err e
+Preluded Declares known (Err e) answer = answer ≡ Err (stopped e known)
 
--- what is held behind the prelude
-abbrev pub Begins : Declaring → Told → Result Held Fault → Type 0
+-- what is held behind the prelude, or why it is refused
+abbrev pub Begins : Declaring → Told → Result Held Stopped → Type 0
 Begins Declares told answer =
     (known : Option Known) × (tokens : Result (List Token) Fault)
     × Expands told (Some nothing_known) prelude tokens known × Preluded Declares known tokens answer
@@ -84,11 +96,12 @@ Begins Declares told answer =
 abbrev pub main : Name
 main = codes "MainC"
 
-abbrev pub Goes : Parsing → Told → Name → Result Held Fault → Result Held Fault → Type 0
+-- behind the prelude; where a file is refused, what is known is what is left there
+abbrev pub Goes : Parsing → Told → Name → Result Held Stopped → Result Held Stopped → Type 0
 Goes Parses told app (Ok s) (Ok after) = order.Reads (Opens Parses told) app main s after
-Goes Parses told app (Ok s) (Err e) = (after : Held) × order.Refuses (Opens Parses told) app main s e after
+Goes Parses told app (Ok s) (Err e) = (after : Held) × order.Refuses (Opens Parses told) app main s e.fault after × (e.reading ≡ after.known)
 Goes Parses told app (Err e) answer = answer ≡ Err e
 
 -- the files of an application, in the order of first need, behind the prelude; or the first that is refused
-abbrev pub ReadsAs : Declaring → Parsing → Told → Name → Result Held Fault → Type 0
-ReadsAs Declares Parses told app answer = (first : Result Held Fault) × Begins Declares told first × Goes Parses told app first answer
+abbrev pub ReadsAs : Declaring → Parsing → Told → Name → Result Held Stopped → Type 0
+ReadsAs Declares Parses told app answer = (first : Result Held Stopped) × Begins Declares told first × Goes Parses told app first answer

@@ -1,34 +1,12 @@
-use Rattle.std.proofs.Common.{rules, ◌≡◌, ◌∙◌, Some, Err}
-use Rattle.wire_loading.specs.Opened.{held, main}
-use Rattle.wire_loading.proofs.Opening.{reads, refuses, refuses_first}
-use Rattle.wire_loading.proofs.Outside.{behind}
+use Rattle.std.proofs.Common.{rules, ◌≡◌, Err}
+use Rattle.wire_reading.specs.Order.{IsRefusal}
+use Rattle.wire_loading.specs.declared.stopped.Stopped.{Stopped}
+use Rattle.wire_loading.specs.Opened.{ReadsAs, stopped}
+use Rattle.wire_loading.proofs.Opening.{stopped_as}
 use Rattle.wire_loading.proofs.application.read_application.Goals as goal
 
-pub returns-in_err-loader-clause-refused : goal.returns-in_err-loader-clause-refused
-returns-in_err-loader-clause-refused g c = λ told tells fault h refusal.
-    let e : c.read_prelude.result ≡ Err fault = search rules in
-    refuses_first g.P.UnitParser.Declares g.P.UnitParser.Parses told c.args.app.now fault (c.read_prelude.ensures.refused told tells fault e refusal)
-
-pub returns-in_err-read_files-clause-outside : goal.returns-in_err-read_files-clause-outside
-returns-in_err-read_files-clause-outside g c =
-    let e : c.from_residual-in_err-read_files.result ≡ Err c.in_err-read_files.field-0.0 = search rules in
-    behind _ _ _ _ _ _ _ _ _ e c.in_ok-loader.ensures.outside c.in_err-read_files.ensures.outside
-
-pub returns-in_err-read_files-clause-refused : goal.returns-in_err-read_files-clause-refused
-returns-in_err-read_files-clause-refused g c = λ told tells fault h refusal.
-    let e : c.read_files.result ≡ Err fault = search rules in
-    let now = c.in_ok-loader.ensures.outside.same ∙ tells in
-    let last : c.in_ok-main.main ≡ main = search rules in
-    let l = c.in_ok-loader.loader in
-    let a = c.read_files.new.opener in
-    refuses g.P.UnitParser.Declares g.P.UnitParser.Parses told c.args.app.now (held l.reading l.names l.units.items) (held a.reading a.names a.units.items) _ _ fault
-    (c.in_ok-loader.ensures.begun told tells) (c.read_files.ensures.refused told now fault e refusal) (search rules) last
-
-pub returns-clause-read : goal.returns-clause-read
-returns-clause-read g c = λ told tells.
-    let now = c.in_ok-loader.ensures.outside.same ∙ tells in
-    let last : c.in_ok-main.main ≡ main = search rules in
-    let l = c.in_ok-loader.loader in
-    let a = c.read_files.new.opener in
-    reads g.P.UnitParser.Declares g.P.UnitParser.Parses told c.args.app.now (held l.reading l.names l.units.items) (held a.reading a.names a.units.items) _ _
-    (c.in_ok-loader.ensures.begun told tells) (c.in_ok-read_files.ensures.read told now) (search rules) last
+pub returns-in-Err-clause-refused : goal.returns-in-Err-clause-refused
+returns-in-Err-clause-refused g c = λ told tells s h refusal.
+    let e : c.read_all.result ≡ Err c.in-Err.fault = search rules in
+    stopped_as _ (λ (t : Stopped). IsRefusal t.fault → ReadsAs g.P.UnitParser.Declares g.P.UnitParser.Parses told c.args.app.now (Err t)) (stopped c.in-Err.fault c.read_all.new.loader.reading) s h
+    (λ r. c.read_all.ensures.refused told tells c.in-Err.fault e r) refusal
