@@ -1,0 +1,4 @@
+pub mod Attempts
+pub mod Given
+pub mod Parts
+pub mod View

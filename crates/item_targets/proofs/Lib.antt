@@ -1,0 +1,6 @@
+pub mod ItemLists
+pub mod Turns
+pub mod Forms
+pub mod Blocks
+pub mod StmtForms
+pub mod Bases
