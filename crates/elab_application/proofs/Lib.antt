@@ -1,5 +1,6 @@
 mod Each
-mod Found
+pub mod Found
 mod Named
 mod Parts
-mod Told
+pub mod Refusals
+pub mod Told

@@ -35,13 +35,18 @@ counts_of app = app.headers.counts ++ flat_map (λ (e : Env). e.counts) app.envs
 
 -- ---- structs
 
-abbrev pub struct_count : Rule (Unit {0} × State) → ℕ
-struct_count (Ok x) = length x.1.structs
-struct_count (Err e) = 0
+-- the state behind declarations; where they are refused, none of them is in force
+abbrev pub state_behind : Rule (Unit {0} × State) → State
+state_behind (Ok x) = x.1
+state_behind (Err e) = start
+
+-- behind the headers
+abbrev pub header_state : seen.Application → State
+header_state app = state_behind (headers_declared app.headers app.components start)
 
 -- how many structs the headers declare
 abbrev pub header_structs : seen.Application → ℕ
-header_structs app = struct_count (headers_declared app.headers app.components start)
+header_structs app = length (header_state app).structs
 
 -- those that were met behind the first of them; where a line is refused there are no pairs
 abbrev pub structs_behind : ℕ → Option Course → List Struct

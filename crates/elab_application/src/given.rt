@@ -28,8 +28,8 @@ use wire_phases::Links;
 use wire_told::{Sight, Sources, sight};
 use wire_units::Loaded;
 
-// What is seen of an application. It was seen before, when its wires were linked: only memory can be missing.
-fn seen_of(alloc: Global, sources: &Sources) -> Result<Sight, NoMemory>
+/// What is seen of an application whose wires were linked: it was seen before, so only memory can be missing.
+pub fn seen_before(alloc: Global, sources: &Sources) -> Result<Sight, NoMemory>
     ensures { IfOk result (λ s. seen.sight_of (view.application_of sources.now) ≡ Ok (view.sight_of s)) }
 {
     match sight(alloc, sources) {
@@ -102,7 +102,7 @@ fn given_in<'u>(
     requires { sources.now.units.now ≡ ground.now.units.now }
     ensures { IfOk result (λ x. spec.IsGivenIn ground.now.units.now ground.now.made.now ground.now.pairs.now (view.application_of sources.now) (application_of x)) }
 {
-    let mut sight = seen_of(alloc, sources)?;
+    let mut sight = seen_before(alloc, sources)?;
     given_by(alloc, ground, sources, &mut sight)
 }
 

@@ -16,5 +16,7 @@ mod rows;
 mod seen;
 mod structs;
 
-pub use given::application;
+pub use given::{application, seen_before};
 pub use rows::worked_rows;
+pub use seen::{EarlyEnvs, early_envs, env_of};
+pub use structs::header_work;

@@ -1,4 +1,4 @@
-//! The structs that were met where types stand in wires.
+//! What the headers declare, and the structs that were met behind them where types stand in wires.
 
 ghost use Rattle.std.specs.Prelude.{◌≡◌, IfOk, drop, map};
 ghost use Rattle.elab_meaning.specs.View.{state_of, struct_of};
@@ -27,16 +27,24 @@ fn no_work(alloc: Global) -> Work
     }
 }
 
-/// How many structs the headers declare. What is seen of the application passed over the same headers, which refuse nothing: only memory
-/// can be missing.
-pub fn header_structs(alloc: Global, sources: &Sources) -> Result<usize, NoMemory>
-    ensures { IfOk result (λ n. n ≡ spec.header_structs (application_of sources.now)) }
+/// What is in force behind the headers. What is seen of the application passed over the same headers, which refuse nothing: only memory can
+/// be missing.
+pub fn header_work(alloc: Global, sources: &Sources) -> Result<Work, NoMemory>
+    ensures { IfOk result (λ w. state_of w ≡ spec.header_state (application_of sources.now)) }
 {
     let mut work = no_work(alloc);
     match headers_declared(alloc, sources.headers, &mut work, sources.units) {
-        Ok(()) => Ok(work.structs.len()),
+        Ok(()) => Ok(work),
         Err(_) => Err(NoMemory),
     }
+}
+
+/// How many structs the headers declare.
+pub fn header_structs(alloc: Global, sources: &Sources) -> Result<usize, NoMemory>
+    ensures { IfOk result (λ n. n ≡ spec.header_structs (application_of sources.now)) }
+{
+    let work = header_work(alloc, sources)?;
+    Ok(work.structs.len())
 }
 
 // What stands behind the first of the items, taken off.

@@ -16,16 +16,34 @@ use Rattle.wire_loading.specs.Opened.{Declaring, Held, Parsing, answer_of, held,
 use Rattle.wire_loading.proofs.Outside.{given, refused}
 use Rattle.wire_phases.specs.Wired.{wired}
 use Rattle.wire_phases.specs.Closed.{Wires}
-use Rattle.nesc_wiring.specs.Loads.{tells, wiring, Loads, IsInside}
+use Rattle.unwired_items.specs.Unwired.{Reaches}
+use Rattle.nesc_wiring.specs.Loads.{tells, wiring, Loads, IsInside, IsWired}
+
+-- ---- what instances lack
+
+pub lacks_nothing : (units : List Loaded) (made : List Made) (facts : List InstanceFacts) (pairs : List Pair)
+    → Wires tells units (Ok (wired units made facts pairs)) → Reaches units made pairs (Ok tt) → IsWired units (Ok (wired units made facts pairs))
+lacks_nothing units made facts pairs wires reaches = (Ok (wired units made facts pairs), wires, (refl, reaches))
+
+pub lacks_something : (units : List Loaded) (made : List Made) (facts : List InstanceFacts) (pairs : List Pair) (e : Fault)
+    → Wires tells units (Ok (wired units made facts pairs)) → Reaches units made pairs (Err e) → IsWired units (Err e)
+lacks_something units made facts pairs e wires reaches = (Ok (wired units made facts pairs), wires, reaches)
+
+pub is_not_linked : (units : List Loaded) (e : Fault) → Wires tells units (Err e) → IsWired units (Err e)
+is_not_linked units e wires = (Err e, wires, refl)
+
+pub ruleset items = (lacks_nothing, lacks_something, is_not_linked)
+
+-- ---- reading
 
 module _ (Declares : Declaring) (Parses : Parsing) (told : Told) (app : Name) where
   pub loads : (known : Option Known) (names : Names) (units : List Loaded) (made : List Made) (facts : List InstanceFacts) (pairs : List Pair)
-      → ReadsAs Declares Parses told app (Ok (held known names units)) → Wires tells units (Ok (wired units made facts pairs))
+      → ReadsAs Declares Parses told app (Ok (held known names units)) → IsWired units (Ok (wired units made facts pairs))
       → Loads Declares Parses told app (Ok (wiring known units made facts pairs))
   loads known names units made facts pairs read wires = (Ok (held known names units), read, (refl, wires))
 
   pub refused_behind : (known : Option Known) (names : Names) (units : List Loaded) (e : Fault)
-      → ReadsAs Declares Parses told app (Ok (held known names units)) → Wires tells units (Err e)
+      → ReadsAs Declares Parses told app (Ok (held known names units)) → IsWired units (Err e)
       → Loads Declares Parses told app (Err (stopped e known))
   refused_behind known names units e read wires = (Ok (held known names units), read, (refl, wires))
 
@@ -35,16 +53,16 @@ module _ (Declares : Declaring) (Parses : Parsing) (told : Told) (app : Name) wh
 -- the same, where the phases behind were given a view of what was read
 pub loads_as : (Declares : Declaring) (Parses : Parsing) (told : Told) (app : Name) (known : Option Known) (names : Names) (units slice : List Loaded)
     (made : List Made) (facts : List InstanceFacts) (pairs : List Pair) → slice ≡ units
-    → ReadsAs Declares Parses told app (Ok (held known names units)) → Wires tells slice (Ok (wired slice made facts pairs))
+    → ReadsAs Declares Parses told app (Ok (held known names units)) → IsWired slice (Ok (wired slice made facts pairs))
     → Loads Declares Parses told app (Ok (wiring known units made facts pairs))
 loads_as Declares Parses told app known names units slice made facts pairs s read wires =
-    loads Declares Parses told app known names units made facts pairs read (subst (λ (us : List Loaded). Wires tells us (Ok (wired us made facts pairs))) s wires)
+    loads Declares Parses told app known names units made facts pairs read (subst (λ (us : List Loaded). IsWired us (Ok (wired us made facts pairs))) s wires)
 
 pub refused_as_read : (Declares : Declaring) (Parses : Parsing) (told : Told) (app : Name) (known : Option Known) (names : Names) (units slice : List Loaded) (e : Fault) → slice ≡ units
-    → ReadsAs Declares Parses told app (Ok (held known names units)) → Wires tells slice (Err e)
+    → ReadsAs Declares Parses told app (Ok (held known names units)) → IsWired slice (Err e)
     → Loads Declares Parses told app (Err (stopped e known))
 refused_as_read Declares Parses told app known names units slice e s read wires =
-    refused_behind Declares Parses told app known names units e read (subst (λ (us : List Loaded). Wires tells us (Err e)) s wires)
+    refused_behind Declares Parses told app known names units e read (subst (λ (us : List Loaded). IsWired us (Err e)) s wires)
 
 -- ---- the outside, which no phase behind reading touches
 

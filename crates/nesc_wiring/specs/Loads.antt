@@ -1,5 +1,6 @@
 -- An application from its files: they are read, its instances are created, what is told of types and constants is found, its wires
--- are linked, and their paths followed; the first phase that refuses something tells it (own: the order of the phases).
+-- are linked, their paths followed, and what its instances lack is looked for; the first phase that refuses something tells it (own: the
+-- order of the phases).
 use Rattle.std.specs.Prelude.{◌≡◌, List, Option, Result, Ok, Err}
 use Rattle.nm_base.specs.declared.fault.Fault.{Fault}
 use Rattle.nm_base.specs.declared.fault.Fault.TheVariants as fault
@@ -12,23 +13,24 @@ use Rattle.wire_loading.specs.declared.stopped.Stopped.{Stopped}
 use Rattle.wire_loading.specs.Opened.{Declaring, Held, Parsing, ReadsAs}
 use Rattle.wire_pairs.specs.declared.facts.InstanceFacts.{InstanceFacts}
 use Rattle.wire_pairs.specs.declared.ends.Pair.{Pair}
-use Rattle.wire_facts.specs.Components.{components_of}
-use Rattle.wire_facts.specs.Seen.{Application, facts_of}
-use Rattle.wire_envs.specs.Envs.{headers_told, instances_told}
-use Rattle.wire_phases.specs.Wired.{Telling, Wired, wired}
+use Rattle.wire_facts.specs.Seen.{facts_of}
+use Rattle.wire_phases.specs.Wired.{Phase, Telling, Wired, wired}
 use Rattle.wire_phases.specs.Closed.{Wires}
-
--- each use of `unique` has its number
-abbrev pub application_of : List Loaded → List Made → Application
-application_of units made = record {
-  components = components_of units;
-  made = made;
-  headers = headers_told units made;
-  envs = instances_told units made;
-}
+use Rattle.elab_application.specs.Given.{application_of}
+use Rattle.unwired_items.specs.Unwired.{Reaches}
 
 abbrev pub tells : Telling
 tells units made = facts_of (application_of units made)
+
+-- what instances lack comes behind all wires and their paths
+abbrev pub WithItems : Phase Wired → Phase Wired → Type 0
+WithItems (Ok w) (Ok v) = (v ≡ w) × Reaches w.units w.made w.pairs (Ok tt)
+WithItems (Ok w) (Err e) = Reaches w.units w.made w.pairs (Err e)
+WithItems (Err e) answer = answer ≡ Err e
+
+-- the instances and pairs of files that lack nothing, or the first refusal of the phases behind reading
+abbrev pub IsWired : List Loaded → Phase Wired → Type 0
+IsWired units answer = (wires : Phase Wired) × Wires tells units wires × WithItems wires answer
 
 -- what the preprocessor knows behind reading, and the instances and pairs
 pub record Wiring : Type 0 where
@@ -40,8 +42,8 @@ wiring known units made facts pairs = record { known = known; wired = wired unit
 
 -- the phases behind reading, which read no file: what is known behind their refusal is what was known before
 abbrev pub Behind : Result Held Stopped → Result Wiring Stopped → Type 0
-Behind (Ok held) (Ok w) = (w.known ≡ held.known) × Wires tells held.units (Ok w.wired)
-Behind (Ok held) (Err s) = (s.reading ≡ held.known) × Wires tells held.units (Err s.fault)
+Behind (Ok held) (Ok w) = (w.known ≡ held.known) × IsWired held.units (Ok w.wired)
+Behind (Ok held) (Err s) = (s.reading ≡ held.known) × IsWired held.units (Err s.fault)
 Behind (Err s) answer = answer ≡ Err s
 
 -- the instances and pairs of an application whose files hold what is told and are parsed so, or its first refusal with what is

@@ -1,9 +1,9 @@
-//! The wiring of an application from its files: its instances and pairs, or the first refusal of reading, of creation and of wires.
+//! The wiring of an application from its files: its instances and pairs, or the first refusal, from reading to what instances lack.
 #![tactic(auto)]
 
 mod loading;
 mod teller;
 mod wiring;
 
-pub use loading::load;
+pub use loading::{inside, load};
 pub use wiring::Wiring;

@@ -1,0 +1,4 @@
+mod Firsts
+mod Found
+mod Reached
+mod SameItems
