@@ -38,7 +38,7 @@ pub(crate) fn compare(
     body: u32,
     answers: &[u16],
 ) -> Result<Outcome, NoMemory> {
-    if !is_well_formed(p) || !has_few_nodes(p) || !is_short(p) {
+    if !is_well_formed(alloc, p) || !has_few_nodes(p) || !is_short(p) {
         return Ok(Outcome {
             actions: Vec::new(alloc),
             is_accepted: false,

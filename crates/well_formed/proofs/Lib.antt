@@ -2,7 +2,9 @@ pub mod Each
 pub mod Same
 pub mod Calls
 pub mod Switches
-pub mod Flat
+pub mod Sized
+pub mod Nulls
+pub mod Moved
 pub mod Pairs
 pub mod Takes
 pub mod Formed

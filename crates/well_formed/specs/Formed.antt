@@ -1,16 +1,12 @@
 -- What programs are made of, by recursion over their lists (own).
-use Rattle.std.specs.Prelude.{⊤, ℕ, ◌≢◌, ◌≤◌, List, [], ◌∷◌, length}
+use Rattle.std.specs.Prelude.{⊤, ℕ, ◌≢◌, List, [], ◌∷◌}
 use Rattle.nesc_core.specs.Plain.{Field}
-use Rattle.nesc_core.specs.Typing.{IsScalar, PointsWell}
+use Rattle.nesc_core.specs.Typing.{PointsWell}
 
 -- of each element
 abbrev pub Each : {X : Type 0} → (X → Type 0) → List X → Type 0
 Each P [] = ⊤
 Each P (x ∷ xs) = P x × Each P xs
-
--- few fields, which are numbers and pointers
-abbrev pub IsFlat : List Field → Type 0
-IsFlat fields = (length fields ≤ 5000) × Each (λ f. IsScalar f.ty) fields
 
 -- lines of their own
 abbrev pub HaveOwnLines : List (ℕ × ℕ) → Type 0

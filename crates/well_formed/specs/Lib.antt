@@ -1,4 +1,5 @@
 pub mod Kinds
+pub mod Laid
 pub mod Scopes
 pub mod Exits
 pub mod Formed

@@ -1,28 +1,29 @@
 //! Which bodies are those of a program.
 
-ghost use Rattle.std.specs.Prelude.{◌≡◌, ◌≤◌, ◌+◌, IfSome, [], length, map, sum_by, take, true};
+ghost use Rattle.std.specs.Prelude.{◌≡◌, ◌≤◌, ◌+◌, ◌*◌, IfSome, [], length, map, sum_by, take, true};
 ghost use Rattle.nesc_core.specs.Heres as heres;
-ghost use Rattle.nesc_core.specs.Size.{AreSized, layout_of};
+ghost use Rattle.nesc_core.specs.Size.{layout_of};
 ghost use Rattle.nesc_core.specs.Typing.{IsScalar, IsType};
 ghost use Rattle.nesc_core.specs.View.{body_of, program_of, stmt_of, stmts_of, structs_of, type_of};
-ghost use Rattle.nesc_core.specs.Weights.{even, frame_weight};
+ghost use Rattle.nesc_core.specs.Weights.{even, frame_weight, stmt_atomics};
 ghost use Rattle.nesc_core.specs.WellFormed.{IsBody, greatest_frame};
 ghost use Rattle.well_formed.specs.Formed.{Each};
+ghost use Rattle.well_formed.specs.Laid.{AreLaid};
 
 use crate::exprs::parameters;
-use crate::measure::{MOST_DEPTH, MOST_LEVELS, MOST_NODES, stmt};
+use crate::measure::{MOST_DEPTH, MOST_NODES, left_by_atomics, stmt};
 use crate::scope::Scope;
 use crate::stmts::is_stmt;
-use crate::types::{is_result, is_scalar, is_type};
+use crate::types::{is_result, is_scalar, is_type, size};
 use crate::ways::by_return;
-use nesc_core::{Body, CoreStmt, CoreType, Program, Structs, size};
+use nesc_core::{Body, CoreStmt, CoreType, Layout, Program, Structs};
 use nm_base::List;
 
 /// The most bytes that a frame weighs.
 const MOST_FRAME: u32 = 10_020;
 
-/// The most bytes of a body's locals.
-const MOST_LOCALS: u32 = MOST_FRAME - 4 * MOST_LEVELS - 2 * MOST_DEPTH - 40;
+/// The bytes of each frame beside those of locals, levels and atomic statements.
+const FRAME: u32 = 40;
 
 fn are_scalars(types: &[CoreType]) -> bool
     ensures { result ≡ true → Each IsScalar (map type_of types.now) }
@@ -35,12 +36,12 @@ fn are_scalars(types: &[CoreType]) -> bool
     true
 }
 
-fn are_types(s: &Structs, types: &[CoreType]) -> bool
-    requires { AreSized (structs_of s.now) }
+fn are_types(s: &Structs, layouts: &[Layout], types: &[CoreType]) -> bool
+    requires { AreLaid (structs_of s.now) layouts.now }
     ensures { result ≡ true → Each (IsType (structs_of s.now)) (map type_of types.now) }
 {
     for t in types {
-        if !is_type(s, t) {
+        if !is_type(s, layouts, t) {
             return false;
         }
     }
@@ -48,27 +49,43 @@ fn are_types(s: &Structs, types: &[CoreType]) -> bool
 }
 
 // What is left of so many bytes behind locals, each at an even place.
-fn left_by_locals(s: &Structs, types: &[CoreType], left: u32) -> Option<u32>
-    requires structs { AreSized (structs_of s.now) }
-    requires types { Each (IsType (structs_of s.now)) (map type_of types.now) }
+fn left_by_locals(s: &Structs, layouts: &[Layout], types: &[CoreType], left: u32) -> Option<u32>
+    requires { AreLaid (structs_of s.now) layouts.now }
     ensures { IfSome result (λ rest. sum_by (λ t. even (layout_of (structs_of s.now) t).size) (map type_of types.now) + rest ≤ left) }
 {
     let mut left = left;
     for t in types {
-        let bytes = size(s, t);
-        left = left.checked_sub(bytes + bytes % 2)?;
+        left = left_by_local(s, layouts, t, left)?;
     }
     Some(left)
 }
 
+fn left_by_local(s: &Structs, layouts: &[Layout], t: &CoreType, left: u32) -> Option<u32>
+    requires { AreLaid (structs_of s.now) layouts.now }
+    ensures { IfSome result (λ rest. even (layout_of (structs_of s.now) (type_of t.now)).size + rest ≤ left) }
+{
+    let bytes = size(s, layouts, t)?;
+    left.checked_sub(bytes)?.checked_sub(bytes % 2)
+}
+
+// What is left of so many bytes behind a body's locals and atomic statements.
+fn left_by_parts(p: &Program, layouts: &[Layout], b: &Body) -> Option<u32>
+    requires { AreLaid (structs_of p.now.structs) layouts.now }
+    ensures { IfSome result (λ rest. sum_by (λ t. even (layout_of (program_of p.now).structs t).size) (body_of b.now).locals + 2 * stmt_atomics (body_of b.now).code + rest + 40 ≤ greatest_frame) }
+{
+    let left = left_by_locals(&p.structs, layouts, b.locals.as_slice(), MOST_FRAME - FRAME)?;
+    left_by_atomics(&b.code, MOST_DEPTH, left)
+}
+
 // Whether the frame of a body weighs little enough.
-fn has_small_frame(p: &Program, b: &Body) -> bool
-    requires structs { AreSized (structs_of p.now.structs) }
-    requires types { Each (IsType (structs_of p.now.structs)) (map type_of b.now.locals) }
+fn has_small_frame(p: &Program, layouts: &[Layout], b: &Body) -> bool
+    requires { AreLaid (structs_of p.now.structs) layouts.now }
     ensures { result ≡ true → frame_weight (program_of p.now) (body_of b.now) ≤ greatest_frame }
 {
-    stmt(&b.code, MOST_DEPTH, MOST_NODES).is_some()
-        && left_by_locals(&p.structs, b.locals.as_slice(), MOST_LOCALS).is_some()
+    match left_by_parts(p, layouts, b) {
+        Some(left) => stmt(&b.code, MOST_DEPTH, left / 4, MOST_NODES).is_some(),
+        None => false,
+    }
 }
 
 // Whether a statement has no inlined call.
@@ -104,21 +121,22 @@ fn are_plain(list: &List<CoreStmt>) -> bool
 
 /// Whether a body is one of this program.
 #[tactic(auto, using(crate::proofs::FormedBody::formed))]
-pub(crate) fn is_body(p: &Program, b: &Body) -> bool
-    requires { AreSized (structs_of p.now.structs) }
+pub(crate) fn is_body(p: &Program, layouts: &[Layout], b: &Body) -> bool
+    requires { AreLaid (structs_of p.now.structs) layouts.now }
     ensures { result ≡ true → IsBody (program_of p.now) (body_of b.now) }
 {
     let scope = Scope {
         program: p,
+        layouts,
         locals: b.locals.as_slice(),
     };
     has_parameters(b)
-        && are_types(&p.structs, b.locals.as_slice())
-        && is_type(&p.structs, &b.result)
+        && are_types(&p.structs, layouts, b.locals.as_slice())
+        && is_type(&p.structs, layouts, &b.result)
         && is_result(&b.result)
-        && is_stmt(&scope, &b.code, by_return(Some(&b.result)))
-        && has_small_frame(p, b)
+        && has_small_frame(p, layouts, b)
         && is_plain(&b.code)
+        && is_stmt(&scope, &b.code, by_return(Some(&b.result)))
 }
 
 // Whether the parameters are numbers and pointers.

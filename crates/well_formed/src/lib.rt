@@ -3,9 +3,12 @@
 
 mod bodies;
 mod exprs;
+mod found;
 mod kind;
+mod layouts;
 mod measure;
 mod operators;
+mod places;
 mod program;
 mod scope;
 mod stmts;

@@ -3,67 +3,31 @@
 ghost use Rattle.std.specs.Prelude.{◌≡◌, ◌≢◌, ◌<◌, ◌≤◌, map, slice_get, true};
 ghost use Rattle.nesc_core.specs.Nodes.{nodes_of};
 ghost use Rattle.nesc_core.specs.Plain.{void};
-ghost use Rattle.nesc_core.specs.Size.{AreSized};
 ghost use Rattle.nesc_core.specs.Typing.{IsType};
 ghost use Rattle.nesc_core.specs.View.{body_of, field_of, program_of, stmt_of, structs_of};
 ghost use Rattle.nesc_core.specs.Weights.{objects_start};
 ghost use Rattle.nesc_core.specs.WellFormed.{BeginsAtomic, BootsAtomic, IsAtomic, IsBody, IsRoot, IsWellFormed, LieFrom};
-ghost use Rattle.well_formed.specs.Formed.{Each, FieldsPoint, HaveOwnLines, IsFlat};
+ghost use Rattle.well_formed.specs.Formed.{Each, FieldsPoint, HaveOwnLines};
+ghost use Rattle.well_formed.specs.Laid.{AreLaid};
 ghost use Rattle.well_formed.specs.declared.measure.TheConstants.{MOST_NODES as most_nodes};
 
 use crate::bodies::is_body;
-use crate::measure::{MOST_DEPTH, MOST_NODES, stmt};
-use crate::types::{is_scalar, is_type, points_well};
-use nesc_core::{Body, CoreStmt, CoreType, Field, Program, Structs, size};
+use crate::layouts::all_layouts;
+use crate::measure::{MOST_DEPTH, MOST_LEVELS, MOST_NODES, stmt};
+use crate::types::{is_type, points_well, size};
+use nesc_core::{Body, CoreStmt, CoreType, Field, Layout, Program, Structs};
 use nm_base::RAM_START;
-
-/// The most fields of a struct.
-const MOST_FIELDS: usize = 5_000;
+use std::alloc::Global;
 
 /// How many lines there are.
 const LINES: u8 = 8;
 
-// Whether a struct has few fields, which are numbers and pointers.
-fn is_flat(fields: &[Field]) -> bool
-    ensures { result ≡ true → IsFlat (map field_of fields.now) }
-{
-    if fields.len() > MOST_FIELDS {
-        return false;
-    }
-    for field in fields {
-        if !is_scalar(&field.ty) {
-            return false;
-        }
-    }
-    true
-}
-
-// Whether all structs are of numbers and pointers.
-fn are_flat(s: &Structs) -> bool
-    ensures { result ≡ true → Each IsFlat (structs_of s.now) }
-{
-    for fields in s.structs.as_slice() {
-        if !is_flat(fields.as_slice()) {
-            return false;
-        }
-    }
-    true
-}
-
-// Whether no type is too large.
-#[tactic(auto, using(crate::proofs::Flat::flat_is_sized))]
-fn are_sized(s: &Structs) -> bool
-    ensures { result ≡ true → AreSized (structs_of s.now) }
-{
-    are_flat(s)
-}
-
-fn fields_point(s: &Structs, fields: &[Field]) -> bool
-    requires { AreSized (structs_of s.now) }
+fn fields_point(s: &Structs, layouts: &[Layout], fields: &[Field]) -> bool
+    requires { AreLaid (structs_of s.now) layouts.now }
     ensures { result ≡ true → FieldsPoint (structs_of s.now) (map field_of fields.now) }
 {
     for field in fields {
-        if !points_well(s, &field.ty) {
+        if !points_well(s, layouts, &field.ty) {
             return false;
         }
     }
@@ -71,12 +35,12 @@ fn fields_point(s: &Structs, fields: &[Field]) -> bool
 }
 
 // Whether all fields are of types that there are.
-fn structs_point(s: &Structs) -> bool
-    requires { AreSized (structs_of s.now) }
+fn structs_point(s: &Structs, layouts: &[Layout]) -> bool
+    requires { AreLaid (structs_of s.now) layouts.now }
     ensures { result ≡ true → Each (FieldsPoint (structs_of s.now)) (structs_of s.now) }
 {
     for fields in s.structs.as_slice() {
-        if !fields_point(s, fields.as_slice()) {
+        if !fields_point(s, layouts, fields.as_slice()) {
             return false;
         }
     }
@@ -84,8 +48,8 @@ fn structs_point(s: &Structs) -> bool
 }
 
 // Whether variables are of types that there are, and lie at even addresses one behind the other.
-fn objects_lie(p: &Program) -> bool
-    requires { AreSized (program_of p.now).structs }
+fn objects_lie(p: &Program, layouts: &[Layout]) -> bool
+    requires { AreLaid (program_of p.now).structs layouts.now }
     ensures types { result ≡ true → Each (λ o. IsType (program_of p.now).structs o.ty) (program_of p.now).objects }
     ensures addresses { result ≡ true → LieFrom (program_of p.now).structs objects_start (program_of p.now).objects }
 {
@@ -93,20 +57,23 @@ fn objects_lie(p: &Program) -> bool
     let mut end = u32::from(RAM_START);
     for object in p.objects.as_slice() {
         let address = u32::from(object.addr);
-        if address < end || address % 2 != 0 || !is_type(s, &object.ty) {
+        if address < end || address % 2 != 0 || !is_type(s, layouts, &object.ty) {
             return false;
         }
-        end = address + size(s, &object.ty);
+        end = match size(s, layouts, &object.ty) {
+            Some(bytes) => address + bytes,
+            None => return false,
+        };
     }
     end <= 65_535
 }
 
-fn bodies_are(p: &Program) -> bool
-    requires { AreSized (structs_of p.now.structs) }
+fn bodies_are(p: &Program, layouts: &[Layout]) -> bool
+    requires { AreLaid (structs_of p.now.structs) layouts.now }
     ensures { result ≡ true → Each (IsBody (program_of p.now)) (program_of p.now).bodies }
 {
     for body in p.bodies.as_slice() {
-        if !is_body(p, body) {
+        if !is_body(p, layouts, body) {
             return false;
         }
     }
@@ -224,22 +191,33 @@ fn roots_are(p: &Program) -> bool
         && boots_atomic(p)
 }
 
-/// Whether a program is well formed. False also for one in which some struct has arrays or structs in it or more than 5,000 fields, a
-/// body has inlined calls, statements stand more than `MOST_DEPTH` deep in one another, an expression has more than `MOST_LEVELS`
-/// levels, or a null pointer stands where no type is asked for. Time grows with the nodes of the program.
-pub fn is_well_formed(p: &Program) -> bool
+// Whether a program whose structs have these layouts is well formed.
+fn is_laid_well(p: &Program, layouts: &[Layout]) -> bool
+    requires { AreLaid (structs_of p.now.structs) layouts.now }
     ensures { result ≡ true → IsWellFormed (program_of p.now) }
 {
-    if !are_sized(&p.structs) || !structs_point(&p.structs) {
+    if !structs_point(&p.structs, layouts) {
         return false;
     }
-    if !objects_lie(p) {
+    if !objects_lie(p, layouts) {
         return false;
     }
-    if !bodies_are(p) {
+    if !bodies_are(p, layouts) {
         return false;
     }
     roots_are(p)
+}
+
+/// Whether a program is well formed. False also where there is no memory for the layouts of its structs, and for a program in which a body
+/// has inlined calls or more than `MOST_NODES` nodes, or statements stand more than `MOST_DEPTH` deep in one another: no program that is
+/// elaborated has these. Time grows with the nodes and fields of the program, and with how deep their types are.
+pub fn is_well_formed(alloc: Global, p: &Program) -> bool
+    ensures { result ≡ true → IsWellFormed (program_of p.now) }
+{
+    match all_layouts(alloc, &p.structs) {
+        Some(layouts) => is_laid_well(p, &layouts),
+        None => false,
+    }
 }
 
 /// Whether a program has at most `MOST_NODES` nodes; false also where its statements are deeper than `MOST_DEPTH`, or its expressions
@@ -249,7 +227,7 @@ pub fn has_few_nodes(p: &Program) -> bool
 {
     let mut left = MOST_NODES;
     for body in p.bodies.as_slice() {
-        match stmt(&body.code, MOST_DEPTH, left) {
+        match stmt(&body.code, MOST_DEPTH, MOST_LEVELS, left) {
             None => return false,
             Some(rest) => left = rest,
         }

@@ -1,5 +1,5 @@
 use Rattle.std.proofs.Common.{refl}
-use Rattle.well_formed.proofs.exprs.are_tests.Goals as goal
+use Rattle.well_formed.proofs.found.are_tests.Goals as goal
 
 pub returns : goal.returns
 returns c = λ e. record {
