@@ -1,0 +1,9 @@
+pub mod Once
+pub mod Units
+pub mod Headers
+pub mod Order
+pub mod Files
+pub mod Paths
+pub mod Phases
+pub mod OneWiring
+pub mod OneProgram

@@ -1,0 +1,2 @@
+pub mod OneWiring
+pub mod OneProgram
