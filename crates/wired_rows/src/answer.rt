@@ -1,7 +1,7 @@
 //! What is said of a line.
 
 use crate::context::{FILE, LOCALS, start};
-use crate::trees::{expr_text, put, put_number, type_text};
+use core_text::{Places, Text, expr_text, type_text};
 use elab_exprs::{Told, constant, type_of, value};
 use elab_meaning::{Typed, Work};
 use nesc_parse_c::{parse_expr, parse_type};
@@ -28,12 +28,12 @@ fn refusal_at(refusal: &Refusal) -> Option<Pos> {
     }
 }
 
-fn fault_text(alloc: Global, out: &mut Vec<u8>, fault: &Fault) -> Result<(), NoMemory> {
+fn fault_text(out: &mut Text, fault: &Fault) -> Result<(), NoMemory> {
     match fault {
         Fault::Refused(refusal) => {
-            put_number(alloc, out, b"E", i64::from(refusal.number()))?;
+            out.put_number(b"E", i64::from(refusal.number()))?;
             match refusal_at(refusal) {
-                Some(at) => put_number(alloc, out, b" ", i64::from(at.col)),
+                Some(at) => out.put_number(b" ", i64::from(at.col)),
                 None => Ok(()),
             }
         }
@@ -42,70 +42,56 @@ fn fault_text(alloc: Global, out: &mut Vec<u8>, fault: &Fault) -> Result<(), NoM
 }
 
 // The types of fresh locals, the objects taken, and the structs that ended.
-fn state_text(alloc: Global, out: &mut Vec<u8>, work: &Work) -> Result<(), NoMemory> {
+fn state_text(out: &mut Text, work: &Work) -> Result<(), NoMemory> {
     for (k, t) in work.locals.iter().enumerate() {
         if k >= LOCALS {
-            put(out, b" made ")?;
-            type_text(alloc, out, t)?;
+            out.put(b" made ")?;
+            type_text(out, t)?;
         }
     }
     for k in &work.taken {
-        put_number(alloc, out, b" taken ", i64::from(*k))?;
+        out.put_number(b" taken ", i64::from(*k))?;
     }
     Ok(())
 }
 
-fn value_text(
-    alloc: Global,
-    out: &mut Vec<u8>,
-    found: Result<Typed, Fault>,
-    work: &Work,
-) -> Result<(), NoMemory> {
+fn value_text(out: &mut Text, found: Result<Typed, Fault>, work: &Work) -> Result<(), NoMemory> {
     match found {
         Ok(v) => {
-            type_text(alloc, out, &v.ty)?;
-            put(out, b" ")?;
-            expr_text(alloc, out, &v.expr, LEVELS)?;
-            state_text(alloc, out, work)
+            type_text(out, &v.ty)?;
+            out.put(b" ")?;
+            expr_text(out, &v.expr, LEVELS)?;
+            state_text(out, work)
         }
-        Err(fault) => fault_text(alloc, out, &fault),
+        Err(fault) => fault_text(out, &fault),
     }
 }
 
-fn wired(alloc: Global, told: &Told, tree: &Expr, out: &mut Vec<u8>) -> Result<(), NoMemory> {
+fn wired(alloc: Global, told: &Told, tree: &Expr, out: &mut Text) -> Result<(), NoMemory> {
     match start(alloc) {
         Ok(mut work) => {
             let found = value(alloc, told, &mut work, tree);
-            value_text(alloc, out, found, &work)
+            value_text(out, found, &work)
         }
         Err(_) => Err(NoMemory),
     }
 }
 
-fn constant_text(
-    alloc: Global,
-    out: &mut Vec<u8>,
-    found: Result<Constant, Fault>,
-) -> Result<(), NoMemory> {
+fn constant_text(out: &mut Text, found: Result<Constant, Fault>) -> Result<(), NoMemory> {
     match found {
         Ok((t, n)) => {
-            type_text(alloc, out, &nesc_core::CoreType::Int(t))?;
-            put_number(alloc, out, b" ", n)
+            type_text(out, &nesc_core::CoreType::Int(t))?;
+            out.put_number(b" ", n)
         }
-        Err(fault) => fault_text(alloc, out, &fault),
+        Err(fault) => fault_text(out, &fault),
     }
 }
 
-fn wired_constant(
-    alloc: Global,
-    told: &Told,
-    tree: &Expr,
-    out: &mut Vec<u8>,
-) -> Result<(), NoMemory> {
+fn wired_constant(alloc: Global, told: &Told, tree: &Expr, out: &mut Text) -> Result<(), NoMemory> {
     match start(alloc) {
         Ok(mut work) => {
             let found = constant(alloc, told, &mut work, tree);
-            constant_text(alloc, out, found)
+            constant_text(out, found)
         }
         Err(_) => Err(NoMemory),
     }
@@ -116,12 +102,12 @@ fn wired_type(
     told: &Told,
     tree: &TypeSpec,
     at: Pos,
-    out: &mut Vec<u8>,
+    out: &mut Text,
 ) -> Result<(), NoMemory> {
     match start(alloc) {
         Ok(mut work) => match type_of(alloc, told, &mut work, tree, at) {
-            Ok(t) => type_text(alloc, out, &t),
-            Err(fault) => fault_text(alloc, out, &fault),
+            Ok(t) => type_text(out, &t),
+            Err(fault) => fault_text(out, &fault),
         },
         Err(_) => Err(NoMemory),
     }
@@ -145,7 +131,7 @@ fn expr_answer(
     told: &Told,
     tokens: &[Token],
     is_constant: bool,
-    out: &mut Vec<u8>,
+    out: &mut Text,
 ) -> Result<(), NoMemory> {
     match whole(parse_expr(alloc, tokens, 0, names, FILE), tokens) {
         Ok(Some(tree)) => {
@@ -155,8 +141,8 @@ fn expr_answer(
                 wired(alloc, told, &tree, out)
             }
         }
-        Ok(None) => put(out, b"not a whole line"),
-        Err(fault) => fault_text(alloc, out, &fault),
+        Ok(None) => out.put(b"not a whole line"),
+        Err(fault) => fault_text(out, &fault),
     }
 }
 
@@ -165,7 +151,7 @@ fn type_answer(
     names: &TypeNames,
     told: &Told,
     tokens: &[Token],
-    out: &mut Vec<u8>,
+    out: &mut Text,
 ) -> Result<(), NoMemory> {
     match whole(parse_type(alloc, tokens, 0, names, FILE), tokens) {
         Ok(Some(tree)) => {
@@ -176,8 +162,8 @@ fn type_answer(
             };
             wired_type(alloc, told, &tree, at, out)
         }
-        Ok(None) => put(out, b"not a whole line"),
-        Err(fault) => fault_text(alloc, out, &fault),
+        Ok(None) => out.put(b"not a whole line"),
+        Err(fault) => fault_text(out, &fault),
     }
 }
 
@@ -195,7 +181,7 @@ pub fn answer(
     told: &Told,
     line: &[u8],
 ) -> Result<Vec<u8>, NoMemory> {
-    let mut out = Vec::new(alloc);
+    let mut out = Text::new(alloc, Places::Column);
     let (kind, text) = match line.strip_prefix(b"type ") {
         Some(text) => (b't', text),
         None => match line.strip_prefix(b"constant ") {
@@ -212,8 +198,8 @@ pub fn answer(
                 expr_answer(alloc, names, told, tokens, kind == b'c', &mut out)?;
             }
         }
-        Err(fault) => fault_text(alloc, &mut out, &fault)?,
+        Err(fault) => fault_text(&mut out, &fault)?,
     }
-    put(&mut out, b"\n")?;
-    Ok(out)
+    out.put(b"\n")?;
+    Ok(out.bytes)
 }

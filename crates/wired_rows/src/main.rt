@@ -3,7 +3,6 @@
 
 mod answer;
 mod context;
-mod trees;
 
 use answer::answer;
 use context::{known_types, told};
