@@ -1,2 +1,4 @@
+pub mod Bounds
 pub mod Chains
+pub mod CodeWeight
 pub mod Whole

@@ -2,14 +2,19 @@
 use Rattle.std.specs.Prelude.{◌<◌, ◌≤◌, ◌+◌, ℕ}
 use Rattle.nm_base.specs.declared.memory_map.TheConstants.{RAM_BYTES}
 use Rattle.nesc_core.specs.Plain.{Program}
-use Rattle.nesc_core.specs.Weights.{data_weight}
+use Rattle.nesc_core.specs.Weights.{code_weight, data_weight}
 use Rattle.lower_stmt.specs.Bodies.{lowered}
+use Rattle.msp_layout.specs.Bytes.{HasBytes}
 use Rattle.msp_layout.specs.Depth.{IsStack}
 use Rattle.msp_layout.specs.Laid.{PassesRam}
+use Rattle.body_bytes.specs.Lean.{IsLean}
 use Rattle.program_image.specs.Order.{lines_of, reset_place}
 use Rattle.image_code.specs.Code.{code_of, data_bytes}
 use Rattle.image_code.specs.Laws.{CanBeChecked, IsCompilable}
 use Rattle.image_sizes.specs.StackWeight.{IsStackWeight}
+
+abbrev pub CodeIsWithinWeight : Type 0
+CodeIsWithinWeight = (p : Program) (bytes : ℕ) → IsCompilable p → IsLean p → HasBytes (code_of p) bytes → bytes ≤ code_weight p
 
 abbrev pub StackIsWithinWeight : Type 0
 StackIsWithinWeight =

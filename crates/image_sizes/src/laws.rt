@@ -1,6 +1,13 @@
 //! Laws of the sizes of images.
 
-ghost use Rattle.image_sizes.specs.Laws.{DataIsWithinWeight, MemoryIsWithinWeights, StackIsWithinWeight};
+ghost use Rattle.image_sizes.specs.Laws.{CodeIsWithinWeight, DataIsWithinWeight, MemoryIsWithinWeights, StackIsWithinWeight};
+
+/// The bytes of the code are at most the code weight, where no call is inlined and no switch has more cases than statements that clear
+/// no local: functions take 96 bytes for each node, checks 24 for each range beside what dereferences leave, and 48 operations, reset
+/// and the lines 4,000.
+pub fn code_is_within_weight()
+    ensures { CodeIsWithinWeight }
+{}
 
 /// The stack of a program's image is at most the program's stack weight: along each chain of calls the functions hold less than the
 /// frames of their bodies weigh, and reset, a line and the routines at the two ends take less than 400 bytes.

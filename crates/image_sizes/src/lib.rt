@@ -3,4 +3,6 @@
 
 mod laws;
 
-pub use laws::{data_is_within_weight, memory_is_within_weights, stack_is_within_weight};
+pub use laws::{
+    code_is_within_weight, data_is_within_weight, memory_is_within_weights, stack_is_within_weight,
+};

@@ -1,0 +1,7 @@
+pub mod Costs
+pub mod Updates
+pub mod Exprs
+pub mod Stmts
+pub mod Spots
+pub mod Parts
+pub mod Bodies

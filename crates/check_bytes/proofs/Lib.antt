@@ -1,0 +1,4 @@
+pub mod Bytes
+pub mod Near
+pub mod Codes
+pub mod Checks
