@@ -2,8 +2,10 @@
 """Prints how long `report` takes on programs of growing size, their builder with it: for each shape the time at a quarter of the size
 and at the whole one, and their ratio, which is about 4 where time is linear and 16 where it is quadratic, as with many variables.
 The shapes are a chain of calls on each side, ladders with two bodies on each step, eight handlers that each reach a ladder, a
-body with many accesses, many bodies with one access each, and many variables with one access each. It adds tests to a copy of the
-repository, and runs them by `rt try --test`."""
+body with many accesses, many bodies with one access each, many variables with one access each, and shapes where what is looked at
+outnumbers the rows: many accesses of one variable beside many that no handler touches, or beside a row for each; more rows than
+the limit; and many objects whose address is taken, where a handler, the boot body or both follow many pointers, of one type or
+of many. It adds tests to a copy of the repository, and runs them by `rt try --test`."""
 import os
 import re
 import subprocess
@@ -12,14 +14,43 @@ import time
 
 from copies import repository_copy
 
-SIZES = {"chain": 4000, "ladder": 4000, "handlers": 4000, "accesses": 10000, "bodies": 10000, "variables": 2000}
-ROWS = {"chain": lambda n: 1, "ladder": lambda n: 1, "handlers": lambda n: 1, "accesses": lambda n: n, "bodies": lambda n: n, "variables": lambda n: n}
+SIZES = {
+    "chain": 4000,
+    "ladder": 4000,
+    "handlers": 4000,
+    "accesses": 10000,
+    "bodies": 10000,
+    "variables": 8000,
+    "untouched": 100000,
+    "norace": 100000,
+    "refused": 100000,
+    "followed": 100000,
+    "pointed": 100000,
+    "others": 100000,
+    "structs": 2000,
+}
+# `report` gives no rows where it refuses a program, and the shape counts none
+ROWS = {
+    "chain": lambda n: 1,
+    "ladder": lambda n: 1,
+    "handlers": lambda n: 1,
+    "accesses": lambda n: n,
+    "bodies": lambda n: n,
+    "variables": lambda n: n,
+    "untouched": lambda n: 0,
+    "norace": lambda n: n // 12,
+    "refused": lambda n: 0,
+    "followed": lambda n: n // 12,
+    "pointed": lambda n: n // 12,
+    "others": lambda n: n // 12,
+    "structs": lambda n: n,
+}
 
 BUILDERS = """//! Programs of growing size.
 
 use crate::report;
 use call_graph::graph;
-use nesc_core::{Body, CoreExpr, CoreStmt, CoreType, Object, Place, Program, Structs};
+use nesc_core::{Body, CoreExpr, CoreStmt, CoreType, Field, Object, Place, Program, Structs};
 use nm_base::{IntType, List, Name, NoMemory, Pos};
 use std::alloc::Global;
 use std::test::Fail;
@@ -36,6 +67,60 @@ fn call(alloc: Global, f: u32) -> CoreStmt {
 
 fn read(x: u32) -> CoreStmt {
     CoreStmt::Eval(CoreExpr::Read(Place::Object(x), AT))
+}
+
+// A read through a pointer to values of this type.
+fn follow(alloc: Global, ty: CoreType) -> Result<CoreStmt, NoMemory> {
+    let pointer = Box::new(alloc, CoreExpr::Null)?;
+    Ok(CoreStmt::Eval(CoreExpr::Read(Place::Deref(pointer, ty), AT)))
+}
+
+fn follow_bytes(alloc: Global, code: &mut Vec<CoreStmt>, times: u32) -> Result<(), NoMemory> {
+    for _ in 0..times {
+        code.push(follow(alloc, CoreType::Int(IntType::U8))?)?;
+    }
+    Ok(())
+}
+
+fn follow_words(alloc: Global, code: &mut Vec<CoreStmt>, times: u32) -> Result<(), NoMemory> {
+    for _ in 0..times {
+        code.push(follow(alloc, CoreType::Int(IntType::U16))?)?;
+    }
+    Ok(())
+}
+
+// Each of the variables from `first` on, once.
+fn read_each(code: &mut Vec<CoreStmt>, first: u32, count: u32) -> Result<(), NoMemory> {
+    for x in 0..count {
+        code.push(read(first + x))?;
+    }
+    Ok(())
+}
+
+fn read_often(code: &mut Vec<CoreStmt>, x: u32, times: u32) -> Result<(), NoMemory> {
+    for _ in 0..times {
+        code.push(read(x))?;
+    }
+    Ok(())
+}
+
+fn push_object(alloc: Global, objects: &mut Vec<Object>, ty: CoreType, norace: bool, taken: bool) -> Result<(), NoMemory> {
+    objects.push(Object {
+        name: Name::new(alloc, b"x")?,
+        ty,
+        addr: 0x1100,
+        norace,
+        taken,
+    })?;
+    Ok(())
+}
+
+fn bytes(alloc: Global, count: u32, taken: bool) -> Result<Vec<Object>, NoMemory> {
+    let mut objects = Vec::new(alloc);
+    for _ in 0..count {
+        push_object(alloc, &mut objects, CoreType::Int(IntType::U8), false, taken)?;
+    }
+    Ok(objects)
 }
 
 fn body(alloc: Global, code: Vec<CoreStmt>) -> Result<Body, NoMemory> {
@@ -66,23 +151,26 @@ fn push_body(alloc: Global, bodies: &mut Vec<Body>, calls: &[u32], variables: u3
 }
 
 fn rows(alloc: Global, bodies: Vec<Body>, variables: u32, handlers: &[u32]) -> Result<usize, Fail> {
-    let mut objects = Vec::new(alloc);
-    for _ in 0..variables {
-        objects.push(Object {
-            name: Name::new(alloc, b"x")?,
-            ty: CoreType::Int(IntType::U8),
-            addr: 0x1100,
-            norace: false,
-            taken: false,
-        })?;
-    }
+    let objects = bytes(alloc, variables, false)?;
+    rows_of(alloc, Vec::new(alloc), objects, bodies, handlers)
+}
+
+// With a body for boot and one for a handler.
+fn two_bodies(alloc: Global, objects: Vec<Object>, boot: Vec<CoreStmt>, handler: Vec<CoreStmt>) -> Result<usize, Fail> {
+    let mut bodies = Vec::new(alloc);
+    bodies.push(body(alloc, boot)?)?;
+    bodies.push(body(alloc, handler)?)?;
+    rows_of(alloc, Vec::new(alloc), objects, bodies, &[1])
+}
+
+fn rows_of(alloc: Global, structs: Vec<List<Field>>, objects: Vec<Object>, bodies: Vec<Body>, handlers: &[u32]) -> Result<usize, Fail> {
     let mut lines = Vec::new(alloc);
     for f in handlers {
         lines.push((1, *f))?;
     }
     let p = Program {
         structs: Structs {
-            structs: List::new(Vec::new(alloc)),
+            structs: List::new(structs),
         },
         objects: List::new(objects),
         bodies: List::new(bodies),
@@ -175,6 +263,95 @@ fn variables(alloc: Global, n: u32) -> Result<usize, Fail> {
     push_body(alloc, &mut bodies, &[], n, 1)?;
     push_body(alloc, &mut bodies, &[], n, 1)?;
     rows(alloc, bodies, n, &[1])
+}
+
+// Many accesses of one variable, and many variables, none of which a handler touches.
+fn untouched(alloc: Global, n: u32) -> Result<usize, Fail> {
+    let mut boot = Vec::new(alloc);
+    read_often(&mut boot, 0, n)?;
+    two_bodies(alloc, bytes(alloc, n / 10 * 3, false)?, boot, Vec::new(alloc))
+}
+
+// A row for each of n / 12 variables, beside n accesses of one that has `norace`.
+fn norace(alloc: Global, n: u32) -> Result<usize, Fail> {
+    let count = n / 12;
+    let mut objects = bytes(alloc, count, false)?;
+    push_object(alloc, &mut objects, CoreType::Int(IntType::U8), true, false)?;
+    let mut boot = Vec::new(alloc);
+    let mut handler = Vec::new(alloc);
+    read_often(&mut boot, count, n)?;
+    read_each(&mut boot, 0, count)?;
+    read_often(&mut handler, count, n)?;
+    read_each(&mut handler, 0, count)?;
+    two_bodies(alloc, objects, boot, handler)
+}
+
+// Half as many variables, each of which a handler touches and boot reads.
+fn refused(alloc: Global, n: u32) -> Result<usize, Fail> {
+    let mut boot = Vec::new(alloc);
+    let mut handler = Vec::new(alloc);
+    read_each(&mut boot, 0, n / 2)?;
+    read_each(&mut handler, 0, n / 2)?;
+    two_bodies(alloc, bytes(alloc, n / 2, false)?, boot, handler)
+}
+
+// A handler follows n pointers, each of which may point at any of n / 12 objects, and boot one.
+fn followed(alloc: Global, n: u32) -> Result<usize, Fail> {
+    let mut boot = Vec::new(alloc);
+    let mut handler = Vec::new(alloc);
+    follow_bytes(alloc, &mut boot, 1)?;
+    follow_bytes(alloc, &mut handler, n)?;
+    two_bodies(alloc, bytes(alloc, n / 12, true)?, boot, handler)
+}
+
+// Boot reads each of n / 12 objects, and follows n pointers that may point at any of as many others, all with `norace`.
+fn pointed(alloc: Global, n: u32) -> Result<usize, Fail> {
+    let count = n / 12;
+    let mut objects = bytes(alloc, count, false)?;
+    for _ in 0..count {
+        push_object(alloc, &mut objects, CoreType::Int(IntType::U8), true, true)?;
+    }
+    let mut boot = Vec::new(alloc);
+    let mut handler = Vec::new(alloc);
+    read_each(&mut boot, 0, count)?;
+    follow_bytes(alloc, &mut boot, n)?;
+    read_each(&mut handler, 0, count)?;
+    follow_bytes(alloc, &mut handler, n)?;
+    two_bodies(alloc, objects, boot, handler)
+}
+
+// Boot follows one pointer that may point at any of n / 12 objects, and n that may point at none of them.
+fn others(alloc: Global, n: u32) -> Result<usize, Fail> {
+    let mut boot = Vec::new(alloc);
+    let mut handler = Vec::new(alloc);
+    follow_bytes(alloc, &mut boot, 1)?;
+    follow_words(alloc, &mut boot, n)?;
+    follow_bytes(alloc, &mut handler, 1)?;
+    follow_words(alloc, &mut handler, n)?;
+    two_bodies(alloc, bytes(alloc, n / 12, true)?, boot, handler)
+}
+
+// A struct for each object, and a pointer to each that is followed: n types, each of which is tried for n objects.
+fn structs(alloc: Global, n: u32) -> Result<usize, Fail> {
+    let mut types = Vec::new(alloc);
+    let mut objects = Vec::new(alloc);
+    let mut boot = Vec::new(alloc);
+    let mut handler = Vec::new(alloc);
+    for k in 0..n {
+        let mut fields = Vec::new(alloc);
+        fields.push(Field {
+            name: Name::new(alloc, b"x")?,
+            ty: CoreType::Int(IntType::U8),
+        })?;
+        types.push(List::new(fields))?;
+        push_object(alloc, &mut objects, CoreType::Struct(k), false, true)?;
+        boot.push(follow(alloc, CoreType::Struct(k))?)?;
+        handler.push(follow(alloc, CoreType::Struct(k))?)?;
+    }
+    let mut bodies = Vec::new(alloc);
+    bodies.push(body(alloc, boot)?)?;
+    bodies.push(body(alloc, handler)?)?;
+    rows_of(alloc, types, objects, bodies, &[1])
 }
 """
 

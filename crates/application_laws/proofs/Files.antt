@@ -7,7 +7,7 @@ use Rattle.nesc_tree.specs.declared.components.Unit as unit
 use Rattle.nesc_tree.specs.declared.declarations.Decl.{Decl}
 use Rattle.nesc_tree.specs.Sorts.{Names}
 use Rattle.nesc_preproc.specs.Sources.{Known, nothing_known}
-use Rattle.nesc_preproc.specs.Expands.{Expands}
+use Rattle.nesc_left_out.specs.Marks.{marked}
 use Rattle.nesc_preproc.specs.OneExpansion as expansion
 use Rattle.nesc_preproc.specs.OneExpansion.{OneExpansion}
 use Rattle.wire_reading.specs.declared.opener.Need.{Need}
@@ -16,7 +16,7 @@ use Rattle.wire_reading.specs.Order as order
 use Rattle.wire_reading.specs.Told.{Told}
 use Rattle.wire_loading.specs.declared.stopped.Stopped.{Stopped}
 use Rattle.wire_loading.specs.Needs.{file_of}
-use Rattle.wire_loading.specs.Opened.{Begins, Declared, Declaring, Goes, Held, Opens, Parsed, Parsing, Preluded, ReadsAs, Scanned, main, prelude, stopped}
+use Rattle.wire_loading.specs.Opened.{Begins, Declared, Declaring, Goes, Held, Opens, Parsed, Parsing, Preluded, ReadsAs, Scanned, Spells, main, prelude, stopped}
 use Rattle.wire_loading.specs.Places.{file_told}
 use Rattle.application_laws.specs.OneWiring.{IsAnswer}
 use Rattle.application_laws.proofs.Order.{Answers, Tells, all_one, ok_err, same_ok}
@@ -32,14 +32,14 @@ expands (fault.Limit l) a = tt
 expands (fault.TooLarge m n) a = tt
 
 module _ (one : OneExpansion) (told : Told) (old : Option Known) (name : Name) where
-  not_expanded : (ts : List Token) (e : Fault) (x y : Option Known) → Expands told old name (Ok ts) x → Expands told old name (Err e) y → IsAnswer e → ⊥
-  not_expanded ts e x y h k a = ok_err ts e (one told old name (Ok ts) (Err e) x y h k tt (expands e a)).0
+  not_expanded : (ts : List Token) (e : Fault) (x y : Option Known) → Spells told old name (Ok ts) x → Spells told old name (Err e) y → IsAnswer e → ⊥
+  not_expanded ts e x y h k a = ok_err h.0 e (one told old name (Ok h.0) (Err e) x y h.1 k tt (expands e a)).0
 
-  same_tokens : (ts us : List Token) (x y : Option Known) → Expands told old name (Ok ts) x → Expands told old name (Ok us) y → ts ≡ us
-  same_tokens ts us x y h k = same_ok ts us (one told old name (Ok ts) (Ok us) x y h k tt tt).0
+  same_tokens : (ts us : List Token) (x y : Option Known) → Spells told old name (Ok ts) x → Spells told old name (Ok us) y → ts ≡ us
+  same_tokens ts us x y h k = h.2 ∙ (ap marked (same_ok h.0 k.0 (one told old name (Ok h.0) (Ok k.0) x y h.1 k.1 tt tt).0) ∙ sym k.2)
 
-  same_known : (ts us : List Token) (x y : Option Known) → Expands told old name (Ok ts) x → Expands told old name (Ok us) y → x ≡ y
-  same_known ts us x y h k = (one told old name (Ok ts) (Ok us) x y h k tt tt).1
+  same_known : (ts us : List Token) (x y : Option Known) → Spells told old name (Ok ts) x → Spells told old name (Ok us) y → x ≡ y
+  same_known ts us x y h k = (one told old name (Ok h.0) (Ok k.0) x y h.1 k.1 tt tt).1
 
 -- ---- what parsing has to keep
 
@@ -58,8 +58,8 @@ pub record OneDeclaring (Declares : Declaring) : Type 0 where
 
 module _ (one : OneExpansion) (Parses : Parsing) (parsing : OneParsing Parses) (told : Told) where
   module _ (s : Held) (need : Need) (needs : List Need) (b : Result (List Need) Fault) (t u : Held) where
-    abbrev Spells : Option Known → List Token → Names → Result unit.Unit Fault → Type 0
-    Spells known ts names answer = Parses need.is_interface (file_told ts known (file_of need.name)) ts need.name s.names names answer
+    abbrev Gives : Option Known → List Token → Names → Result unit.Unit Fault → Type 0
+    Gives known ts names answer = Parses need.is_interface (file_told ts known (file_of need.name)) ts need.name s.names names answer
 
     kept_once : (known : Option Known) (ts : List Token) (names after : Names) (x y : unit.Unit) → x ≡ y → names ≡ after
         → Parsed s.units known ts names (Ok x) (Ok needs) t → Parsed s.units known ts after (Ok y) b u → (b ≡ Ok needs) × (u ≡ t)
@@ -68,7 +68,7 @@ module _ (one : OneExpansion) (Parses : Parsing) (parsing : OneParsing Parses) (
         let kept = subst (λ (ns : Names). Parsed s.units known ts ns (Ok x) b u) (sym n) same in
         (kept.0 ∙ sym p.0, kept.1 ∙ sym p.1)
 
-    parsed_once : (known : Option Known) (ts : List Token) (names after : Names) (x y : Result unit.Unit Fault) → Spells known ts names x → Spells known ts after y
+    parsed_once : (known : Option Known) (ts : List Token) (names after : Names) (x y : Result unit.Unit Fault) → Gives known ts names x → Gives known ts after y
         → Parsed s.units known ts names x (Ok needs) t → Parsed s.units known ts after y b u → Tells b → (b ≡ Ok needs) × (u ≡ t)
     parsed_once known ts names after (Err e) y v w p q c = absurd (ok_err needs e p.0)
     parsed_once known ts names after (Ok x) (Err e) v w p q c = absurd (parsing.not_refused need.is_interface (file_told ts known (file_of need.name)) ts need.name s.names names after x e v w (subst Tells q.0 c))
@@ -77,7 +77,7 @@ module _ (one : OneExpansion) (Parses : Parsing) (parsing : OneParsing Parses) (
         (parsing.one_unit need.is_interface (file_told ts known (file_of need.name)) ts need.name s.names names after x y v w)
         (parsing.one_set need.is_interface (file_told ts known (file_of need.name)) ts need.name s.names names after x y v w) p q
 
-    scanned_once : (x y : Option Known) (o r : Result (List Token) Fault) → Expands told s.known (file_of need.name) o x → Expands told s.known (file_of need.name) r y
+    scanned_once : (x y : Option Known) (o r : Result (List Token) Fault) → Spells told s.known (file_of need.name) o x → Spells told s.known (file_of need.name) r y
         → Scanned Parses s need x o (Ok needs) t → Scanned Parses s need y r b u → Tells b → (b ≡ Ok needs) × (u ≡ t)
     scanned_once x y (Err e) r h k p q c = absurd (ok_err needs e p.0)
     scanned_once x y (Ok ts) (Err e) h k p q c = absurd (not_expanded one told s.known (file_of need.name) ts e x y h k (subst Tells q.0 c))
@@ -113,7 +113,7 @@ module _ (one : OneExpansion) (Declares : Declaring) (declaring : OneDeclaring D
       let same : Declared known names (Ok l) y = subst (λ (ds : List Decl). Declared known names (Ok ds) y) list at in
       same ∙ sym p
 
-  preluded_once : (x z : Option Known) (o r : Result (List Token) Fault) → Expands told (Some nothing_known) prelude o x → Expands told (Some nothing_known) prelude r z
+  preluded_once : (x z : Option Known) (o r : Result (List Token) Fault) → Spells told (Some nothing_known) prelude o x → Spells told (Some nothing_known) prelude r z
       → Preluded Declares x o (Ok h) → Preluded Declares z r y → Ends y → y ≡ Ok h
   preluded_once x z (Err e) r v w p q c = absurd (ok_err h (stopped e x) p)
   preluded_once x z (Ok ts) (Err e) v w p q c = absurd (not_expanded one told (Some nothing_known) prelude ts e x z v w (subst Ends q c))

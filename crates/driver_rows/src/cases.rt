@@ -1,8 +1,8 @@
 //! Calls of the top call with their status and text, worked out by hand from what each mode prints and answers.
 
 use crate::texts::{
-    ARRIVALS_TRACE, BUILD_END, FIRST_IMAGE, FIRST_TRACE, GATE_BEFORE, GATE_BEHIND, NO_TRACE,
-    TIGHT_TRACE, USAGE,
+    ARRIVALS_TRACE, BUILD_END, FIRST_IMAGE, FIRST_TRACE, GATE_BEFORE, GATE_BEHIND, NO_DATA,
+    NO_TRACE, TIGHT_TRACE, TWO_BYTES, USAGE, ZERO_TRACE,
 };
 use nm_words::{HELP, VERSION};
 
@@ -69,13 +69,9 @@ pub const CASES: [Case; 50] = [
     (
         &["run", "Odd", "none.txt"],
         1,
-        ["refused E08 Odd.nc:1:1 later\n", ""],
+        ["refused E11 Odd.nc:1:92\n", ""],
     ),
-    (
-        &["run", "Zero", "none.txt"],
-        1,
-        ["refused E08 Zero.nc:1:1 later\n", ""],
-    ),
+    (&["run", "Zero", "none.txt"], 0, [NO_DATA, ZERO_TRACE]),
     (
         &["run", "Two", "none.txt"],
         1,
@@ -97,22 +93,14 @@ pub const CASES: [Case; 50] = [
         1,
         ["refused E08 Hw.nc:1:42 hwevent\n", ""],
     ),
-    (
-        &["build", "Typed"],
-        1,
-        ["refused E08 Typed.nc:1:1 later\n", ""],
-    ),
+    (&["build", "Typed"], 0, [TWO_BYTES, "q\n"]),
     (
         &["run", "Untyped", "none.txt"],
         1,
         ["refused E07 Untyped.nc:1:37\n", ""],
     ),
     (&["check", "Boot"], 1, ["refused E07 Boot.nc:1:1\n", ""]),
-    (
-        &["run", "MainC", "none.txt"],
-        1,
-        ["refused E08 MainC.nc:1:1 later\n", ""],
-    ),
+    (&["run", "MainC", "none.txt"], 0, [NO_DATA, " off 1\n"]),
     (
         &["run", "LoopC", "none.txt"],
         1,

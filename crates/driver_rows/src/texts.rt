@@ -12,6 +12,7 @@ implementation {
 pub const ODD: &[u8] =
     b"module Odd { uses interface Boot; } implementation { event void Boot.booted() { port_write(0x0121, 1); } }";
 
+// The number is octal, and is 1.
 pub const ZERO: &[u8] =
     b"module Zero { uses interface Boot; } implementation { event void Boot.booted() { port_write(0x0120, 01); } }";
 
@@ -36,6 +37,12 @@ stack 102
 3C 40 16 00 03 12 1C 83 FD 23 91 41 30 00 04 00
 ";
 
+// How the text of an application without variables begins.
+pub const NO_DATA: &str = "races 0\ndata 0\nstack ";
+
+// Two variables of a byte, each at an even address; what they take is an even number.
+pub const TWO_BYTES: &str = "races 0\ndata 4\nstack ";
+
 // The lines lead to one function each, all else to reset.
 pub const FIRST_TRACE: &str = "@FFE0
 12 48 4A 48 82 48 BA 48 F2 48 2A 49 62 49 9A 49
@@ -57,6 +64,12 @@ pub const TIGHT_TRACE: &str = "trace
 172 out 015e 65535
 174 out 0120 0
 end slots 10000 ran 181 sp 38b8 off 1
+";
+
+// One write; each takes two instructions.
+pub const ZERO_TRACE: &str = "trace
+172 out 0120 1
+end slots 10000 ran 179 sp 38b8 off 1
 ";
 
 pub const NO_TRACE: &str = "q

@@ -1,5 +1,5 @@
 -- Answers that are due, and what good words and files leave of them.
-use Rattle.std.proofs.Common.{◌≡◌, ◌<◌, ◌≤◌, ◌⊎◌, inl, inr, ⊎_elim, ℕ, List, [], length, Option, Some, None, arith, refl, sym, ap, subst, ◌∙◌}
+use Rattle.std.proofs.Common.{◌≡◌, ◌<◌, ◌≤◌, ◌⊎◌, inl, inr, ⊎_elim, ℕ, List, [], ◌∷◌, length, Option, Some, None, arith, refl, sym, ap, subst, ◌∙◌}
 use Rattle.std.specs.declared.result.Result.{Result}
 use Rattle.std.specs.declared.result.Result.TheVariants.{Ok, Err}
 use Rattle.std.specs.Result.{IsErrAnd}
@@ -7,14 +7,19 @@ use Rattle.std.specs.Prelude.{IfErr}
 use Rattle.nm_base.specs.declared.fault.Fault.{Fault}
 use Rattle.nm_base.specs.declared.fault.Fault.TheVariants as fault
 use Rattle.nm_base.specs.declared.limit.Limit.{Limit as LimitOf}
+use Rattle.nm_base.specs.declared.refusal.Refusal.{Refusal}
+use Rattle.nm_base.specs.declared.refusal.Refusal.TheVariants as refusal
 use Rattle.nesc_preproc.specs.Sources.{Known}
 use Rattle.nesc_preproc.specs.Expands.{Told}
-use Rattle.application_file.specs.Read.{source_file}
-use Rattle.application_file.specs.OneReading.{OneReading, IsAnswer}
-use Rattle.write_forms.specs.declared.form.Constant.{Constant}
-use Rattle.write_forms.specs.Form.{HasForm}
-use Rattle.write_forms.specs.Tokens.{spellings}
-use Rattle.boot_writes.specs.Application.{IsSource, IsStopped}
+use Rattle.nesc_core.specs.Plain.{Program}
+use Rattle.nesc_core.specs.Calls.{HasNoCycle}
+use Rattle.call_graph.specs.Paths.{Leads, callees}
+use Rattle.call_graph.specs.Refusals.{HasNoSyncPath, IsCycle, IsDue as IsCallFault, IsWhy as IsCallRefusal}
+use Rattle.call_graph.proofs.Chains.{falls}
+use Rattle.race_checker.specs.Computed.{report_of}
+use Rattle.race_report.specs.Limit.{IsWhy, most}
+use Rattle.application_laws.specs.OneWiring.{IsAnswer}
+use Rattle.nesc_programs.specs.OneApplication.{OneApplication}
 use Rattle.mote_devices.specs.declared.state.BoardState.{BoardState}
 use Rattle.mote_devices.specs.declared.shown.Due.{Due}
 use Rattle.mote_text.specs.ImageLines.{image_of}
@@ -26,10 +31,11 @@ use Rattle.nm_words.specs.declared.mode.Mode.{Mode}
 use Rattle.nm_words.specs.declared.mode.Mode.TheVariants.{Check, Build, Run, Mote}
 use Rattle.nm_driver.specs.declared.status.Status.{Status}
 use Rattle.nm_driver.specs.declared.status.Status.TheVariants.{Done, Refused, Usage, Missing, ReadFault, WriteFault, BadSchedule, Limit, TooLarge, NoMemory, BadImage}
-use Rattle.nm_driver.specs.Lines.{answer_line}
+use Rattle.nm_driver.specs.Lines.{answer_line, plain_line}
+use Rattle.nm_driver.specs.Applications.{CanBeBuilt, HasApplication, IsAccepted, IsCause, IsOfSource, IsRefused, IsRefusedIn, IsUnbuilt}
 use Rattle.nm_driver.specs.NamedFiles.{FileStops, HasImage, HasRows, HasSchedule, HasSubject, ImageStops, IsRead, IsTooLarge, RowsStop, ScheduleStops, SourceStops, SubjectStops, status_of}
-use Rattle.nm_driver.specs.Output.{HasCause, HasText, IsDone, IsDue, IsOfSource, IsReady, Prints, Stops}
-use Rattle.nm_driver.specs.Prepared.{IfSays, IsLined, IsNoMemory, SaysOf, SaysOfSource, SaysOfSubject, fault_file, line_of}
+use Rattle.nm_driver.specs.Output.{HasCause, HasText, IsDone, IsDue, IsReady, Prints, Stops}
+use Rattle.nm_driver.specs.Prepared.{IfSays, IsLined, IsNoMemory, SaysOf, SaysOfSource, SaysOfSubject, fault_detail, fault_file, line_of}
 use Rattle.nm_words.specs.Asked.{Asked, AreWords, Requested, help, request, version}
 use Rattle.nm_words.proofs.OneAnswer.{one_request}
 
@@ -51,7 +57,7 @@ passed P (Ok x) e is h = absurd is
 -- ---- answers that are due
 
 module _ (told : Option Told) (words : List (List ℕ)) (asked : Requested) (are : AreWords words (request asked)) (board : BoardState) where
-  lined_due : (status : Status) (text : List ℕ) → IsLined status → text ≡ answer_line [] status → ((files : Told) → told ≡ Some files → Stops files words status) → IsDue told words board status text
+  lined_due : (status : Status) (text : List ℕ) → IsLined status → text ≡ plain_line status → ((files : Told) → told ≡ Some files → Stops files words status) → IsDue told words board status text
   lined_due Done text lined line stops = absurd lined
   lined_due (Refused r) text lined line stops = absurd lined
   lined_due Usage text lined line stops = absurd lined
@@ -64,41 +70,45 @@ module _ (told : Option Told) (words : List (List ℕ)) (asked : Requested) (are
   lined_due NoMemory text lined line stops = absurd lined
   lined_due (BadImage n) text lined line stops = record { is_text = line; cause = stops; usage = λ e. absurd (let k : BadImage n ≡ Usage = e in cc); not_usage = λ none. absurd (none (request asked, are)) }
 
-  fault_due : (e : Fault) (known : Known) (text : List ℕ) → IsOfSource asked.mode → (IsNoMemory e → ⊥) → text ≡ answer_line (fault_file known (source_file asked.subject) e) (status_of e)
-      → ((files : Told) → told ≡ Some files → IsStopped files asked.subject e known) → ((files : Told) → told ≡ Some files → Stops files words (status_of e)) → IsDue told words board (status_of e) text
-  fault_due (fault.Refused r) known text runs found line source stops = record {
-    is_text = record { asked = asked; words_are = are; compiles = runs; known = known; line = line; source = source };
+  fault_due : (e : Fault) (known : Option Known) (program : Option Program) (text : List ℕ) → IsOfSource asked.mode → (IsNoMemory e → ⊥)
+      → text ≡ answer_line (fault_file known asked.subject e) (fault_detail program e) (status_of e)
+      → ((files : Told) → told ≡ Some files → IsRefused files asked.mode asked.subject e known program) → ((files : Told) → told ≡ Some files → Stops files words (status_of e)) → IsDue told words board (status_of e) text
+  fault_due (fault.Refused r) known program text runs found line source stops = record {
+    is_text = record { asked = asked; words_are = are; of_source = runs; known = known; program = program; line = line; source = source };
     cause = stops;
     usage = λ e. absurd (let k : Refused r ≡ Usage = e in cc);
     not_usage = λ none. absurd (none (request asked, are));
   }
-  fault_due (fault.Missing name) known text runs found line source stops = lined_due (Missing name) text tt line stops
-  fault_due fault.ReadFault known text runs found line source stops = lined_due ReadFault text tt line stops
-  fault_due (fault.Limit l) known text runs found line source stops = lined_due (Limit l) text tt line stops
-  fault_due (fault.TooLarge room n) known text runs found line source stops = record {
+  fault_due (fault.Missing name) known program text runs found line source stops = lined_due (Missing name) text tt line stops
+  fault_due fault.ReadFault known program text runs found line source stops = lined_due ReadFault text tt line stops
+  fault_due (fault.Limit l) known program text runs found line source stops = lined_due (Limit l) text tt line stops
+  fault_due (fault.TooLarge room n) known program text runs found line source stops = record {
     is_text = line;
     cause = stops;
     usage = λ e. absurd (let k : TooLarge room n ≡ Usage = e in cc);
     not_usage = λ none. absurd (none (request asked, are));
   }
-  fault_due fault.NoMemory known text runs found line source stops = absurd (found tt)
+  fault_due fault.NoMemory known program text runs found line source stops = absurd (found tt)
 
   stops_at : (files : Told) (status : Status) → SubjectStops files asked.mode asked.subject status → Stops files words status
   stops_at files status h = record { asked = asked; words_are = are; cause = inl h }
 
   -- an answer about the files of an application
-  source_due : IsOfSource asked.mode → ((files : Told) (status : Status) → SourceStops files asked.subject status → SubjectStops files asked.mode asked.subject status)
-      → (answer : Answer) → SaysOfSource told asked.subject answer → IsDue told words board answer.status (line_of answer)
-  source_due of_source stops answer says =
-      subst (λ s. IsDue told words board s (line_of answer)) (sym says.is_status)
-      (fault_due says.cause says.known (line_of answer) of_source says.found says.is_line says.source
-      (λ files h. stops_at files (status_of says.cause) (stops files (status_of says.cause) (record { fault = says.cause; known = says.known; stopped = says.source files h; answer = refl }))))
+  source_due : (m : Mode) → asked.mode ≡ m → IsOfSource m → ((files : Told) (status : Status) → SourceStops files m asked.subject status → SubjectStops files m asked.subject status)
+      → (answer : Answer) → SaysOfSource told m asked.subject answer → IsDue told words board answer.status (line_of answer)
+  source_due m is of_source stops answer says =
+      let status = status_of says.cause in
+      subst (λ s. IsDue told words board s (line_of answer)) (sym says.says.is_status)
+      (fault_due says.cause says.known says.program (line_of answer) (subst IsOfSource (sym is) of_source) says.says.found says.says.is_line
+      (λ files h. subst (λ x. IsRefused files x asked.subject says.cause says.known says.program) (sym is) (says.source files h))
+      (λ files h. stops_at files status (subst (λ x. SubjectStops files x asked.subject status) (sym is)
+      (stops files status (record { fault = says.cause; known = says.known; program = says.program; refused = says.source files h; answer = refl })))))
 
   -- an answer about what is asked for
   pub subject_due : (mode : Mode) → asked.mode ≡ mode → (answer : Answer) → SaysOfSubject told mode asked.subject answer → IsDue told words board answer.status (line_of answer)
-  subject_due Check is answer says = source_due (subst IsOfSource (sym is) tt) (λ files status h. subst (λ m. SubjectStops files m asked.subject status) (sym is) h) answer says
-  subject_due Build is answer says = source_due (subst IsOfSource (sym is) tt) (λ files status h. subst (λ m. SubjectStops files m asked.subject status) (sym is) h) answer says
-  subject_due Run is answer says = source_due (subst IsOfSource (sym is) tt) (λ files status h. subst (λ m. SubjectStops files m asked.subject status) (sym is) h) answer says
+  subject_due Check is answer says = source_due Check is tt (λ files status h. h) answer says
+  subject_due Build is answer says = source_due Build is tt (λ files status h. h) answer says
+  subject_due Run is answer says = source_due Run is tt (λ files status h. h) answer says
   subject_due Mote runs answer says =
       lined_due answer.status (line_of answer) says.lined says.line
       (λ files h. stops_at files answer.status (subst (λ m. SubjectStops files m asked.subject answer.status) (sym runs) (says.cause files h)))
@@ -111,9 +121,12 @@ module _ (told : Option Told) (words : List (List ℕ)) (asked : Requested) (are
 
 -- what prints has its subject
 pub has_subject : (told : Option Told) (files : Told) → told ≡ Some files → (mode : Mode) (name : List ℕ) (board : BoardState) (rows : List Due) (n : ℕ) (text : List ℕ) → Prints told mode name board rows n text → HasSubject files mode name
-has_subject told files h Check name board rows n text prints = (prints.0.program, prints.0.has files h)
-has_subject told files h Build name board rows n text prints = (prints.0.program, prints.0.has files h)
-has_subject told files h Run name board rows n text prints = (prints.0.program, prints.0.has files h)
+has_subject told files h Check name board rows n text prints =
+    let a = prints.0 in record { program = a.program; has = a.has files h; accepted = a.accepted; taken = λ builds. absurd builds }
+has_subject told files h Build name board rows n text prints =
+    let a = prints.0 in record { program = a.program; has = a.has files h; accepted = a.accepted; taken = λ builds. prints.1.builds }
+has_subject told files h Run name board rows n text prints =
+    let a = prints.0 in record { program = a.program; has = a.has files h; accepted = a.accepted; taken = λ builds. prints.1.builds }
 has_subject told files h Mote name board rows n text prints = (prints.0, prints.2 files h)
 
 -- ---- where all is good
@@ -193,27 +206,81 @@ not_schedule : (told : Told) (name : Option (List ℕ)) (rows : List Due) (s : S
 not_schedule told None rows s has h = absurd h
 not_schedule told (Some name) rows s has h = not_rows told name rows s has h
 
-module _ (one : OneReading) (told : Told) (app : List ℕ) (writes : List Constant) (source : IsSource told app writes) where
-  not_stopped : (e : Fault) (known : Known) → IsAnswer e → IsStopped told app e known → ⊥
-  not_stopped e known answers (inl reads) = one.no_fault told app e source.tokens (Some known) (Some source.known) reads source.read answers
-  not_stopped e known answers (inr h) =
-      let formless = h.1 in
-      let same = one.one_list told app source.tokens formless.tokens (Some source.known) (Some known) source.read formless.read in
-      formless.none writes (subst (λ ts. HasForm app (spellings ts) writes) same source.form)
+-- ---- an application that is taken
 
-  not_source : (e : Fault) (known : Known) → IsStopped told app e known → (status_of e ≡ ReadFault) ⊎ (status_of e ≡ NoMemory)
-  not_source (fault.Refused r) known h = absurd (not_stopped (fault.Refused r) known tt h)
-  not_source (fault.Missing n) known h = absurd (not_stopped (fault.Missing n) known tt h)
-  not_source fault.ReadFault known h = inl refl
-  not_source (fault.Limit l) known h = absurd (not_stopped (fault.Limit l) known tt h)
-  not_source (fault.TooLarge room n) known h = absurd (not_stopped (fault.TooLarge room n) known tt h)
-  not_source fault.NoMemory known h = inr refl
+-- calls without a cycle, and no handler that reaches what is not `async`
+module _ (p : Program) (ranked : HasNoCycle p) (good : HasNoSyncPath p) where
+  leads_down : (f : ℕ) (rest : List ℕ) (g : ℕ) → Leads (callees p) f rest g → ranked.rank g ≤ ranked.rank f
+  leads_down f [] g h = subst (λ k. ranked.rank k ≤ ranked.rank f) h (omega arith)
+  leads_down f (x ∷ rest) g h = let a = falls p ranked f x h.0 in let b = leads_down x rest g h.1 in omega (arith, a, b)
 
-module _ (one : OneReading) (told : Told) where
+  no_cycle : (path : List ℕ) → IsCycle p path → ⊥
+  no_cycle [] h = h
+  no_cycle (f ∷ []) h = h
+  no_cycle (f ∷ x ∷ rest) h = let a = falls p ranked f x h.0 in let b = leads_down x rest f h.1 in omega (arith, a, b)
+
+  no_refusal : (r : Refusal) → IsCallRefusal p r → ⊥
+  no_refusal (refusal.Recursion at path) h = no_cycle path h.cycle.is_one
+  no_refusal (refusal.NotAsync at path) h = good path h.chain.is_one
+  no_refusal _ h = h
+
+  not_by_calls : (e : Fault) → IsAnswer e → IsCallFault p e → ⊥
+  not_by_calls (fault.Refused r) answers h = no_refusal r h
+  not_by_calls (fault.Missing name) answers h = h
+  not_by_calls fault.ReadFault answers h = h
+  not_by_calls (fault.Limit l) answers h = h
+  not_by_calls (fault.TooLarge room n) answers h = h
+  not_by_calls fault.NoMemory answers h = answers
+
+not_by_rows : (p : Program) → length (report_of p) ≤ most → (e : Fault) → IsAnswer e → IsWhy p e → ⊥
+not_by_rows p few (fault.Refused r) answers h = h
+not_by_rows p few (fault.Missing name) answers h = h
+not_by_rows p few fault.ReadFault answers h = h
+not_by_rows p few (fault.Limit l) answers h = let many = h.1 in omega (arith, few, many)
+not_by_rows p few (fault.TooLarge room n) answers h = h
+not_by_rows p few fault.NoMemory answers h = answers
+
+module _ (p : Program) (can : CanBeBuilt p) where
+  has_no_cause : (e : Fault) → IsAnswer e → IsCause p e → ⊥
+  has_no_cause (fault.Refused r) answers h = h
+  has_no_cause (fault.Missing name) answers h = h
+  has_no_cause fault.ReadFault answers h = h
+  has_no_cause (fault.Limit l) answers h = h
+  has_no_cause (fault.TooLarge room need) answers h = can.has_room room need h
+  has_no_cause fault.NoMemory answers h = answers
+
+  not_unbuilt : (e : Fault) → IsAnswer e → IsUnbuilt p e → ⊥
+  not_unbuilt e answers (inl (tasks, is)) = tasks can.no_tasks
+  not_unbuilt e answers (inr (none, cause)) = has_no_cause e answers cause
+
+module _ (one : OneApplication) (told : Told) (mode : Mode) (app : List ℕ) (has : HasApplication told mode app) where
+  not_refused_in : (e : Fault) → IsAnswer e → IsRefusedIn mode has.program e → ⊥
+  not_refused_in e answers (inl due) = not_by_calls has.program has.accepted.no_cycle has.accepted.no_sync e answers due
+  not_refused_in e answers (inr (inl h)) = not_by_rows has.program has.accepted.few e answers h.2
+  not_refused_in e answers (inr (inr h)) = not_unbuilt has.program (has.taken h.0) e answers h.2
+
+  not_refused : (e : Fault) (known : Option Known) (program : Option Program) → IsAnswer e → IsRefused told mode app e known program → ⊥
+  not_refused e known None answers h = one.no_fault told app has.program e known has.has h answers
+  not_refused e known (Some q) answers h =
+      let same = one.one told app q has.program (known, h.0) has.has in
+      not_refused_in e answers (subst (λ x. IsRefusedIn mode x e) same h.1)
+
+  not_by_fault : (e : Fault) (known : Option Known) (program : Option Program) → IsRefused told mode app e known program → (status_of e ≡ ReadFault) ⊎ (status_of e ≡ NoMemory)
+  not_by_fault (fault.Refused r) known program h = absurd (not_refused (fault.Refused r) known program tt h)
+  not_by_fault (fault.Missing n) known program h = absurd (not_refused (fault.Missing n) known program tt h)
+  not_by_fault fault.ReadFault known program h = inl refl
+  not_by_fault (fault.Limit l) known program h = absurd (not_refused (fault.Limit l) known program tt h)
+  not_by_fault (fault.TooLarge room n) known program h = absurd (not_refused (fault.TooLarge room n) known program tt h)
+  not_by_fault fault.NoMemory known program h = inr refl
+
+  not_source : (s : Status) → SourceStops told mode app s → (s ≡ ReadFault) ⊎ (s ≡ NoMemory)
+  not_source s h = subst (λ x. (x ≡ ReadFault) ⊎ (x ≡ NoMemory)) (sym h.answer) (not_by_fault h.fault h.known h.program h.refused)
+
+module _ (one : OneApplication) (told : Told) where
   not_subject : (mode : Mode) (name : List ℕ) (s : Status) → HasSubject told mode name → SubjectStops told mode name s → (s ≡ ReadFault) ⊎ (s ≡ NoMemory)
-  not_subject Check name s has h = subst (λ x. (x ≡ ReadFault) ⊎ (x ≡ NoMemory)) (sym h.answer) (not_source one told name has.1.writes has.1.source h.fault h.known h.stopped)
-  not_subject Build name s has h = subst (λ x. (x ≡ ReadFault) ⊎ (x ≡ NoMemory)) (sym h.answer) (not_source one told name has.1.writes has.1.source h.fault h.known h.stopped)
-  not_subject Run name s has h = subst (λ x. (x ≡ ReadFault) ⊎ (x ≡ NoMemory)) (sym h.answer) (not_source one told name has.1.writes has.1.source h.fault h.known h.stopped)
+  not_subject Check name s has h = not_source one told Check name has s h
+  not_subject Build name s has h = not_source one told Build name has s h
+  not_subject Run name s has h = not_source one told Run name has s h
   not_subject Mote name s has h = inl (not_image told name has.0 s has.1 h)
 
   -- good files stop no request
@@ -227,7 +294,7 @@ module _ (one : OneReading) (told : Told) where
   unstopped words s m help e ready = absurd (let k : request m.asked ≡ help = e in cc)
   unstopped words s m version e ready = absurd (let k : request m.asked ≡ version = e in cc)
 
-module _ (one : OneReading) (told : Told) (words : List (List ℕ)) (good : IsDone told words) where
+module _ (one : OneApplication) (told : Told) (words : List (List ℕ)) (good : IsDone told words) where
   only_read : (s : Status) → (s ≡ NoMemory → ⊥) → Stops told words s → (s ≡ Done) ⊎ (s ≡ ReadFault)
   only_read s other m =
       ⊎_elim inr (λ e. absurd (other e))

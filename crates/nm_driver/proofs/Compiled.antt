@@ -1,43 +1,35 @@
--- What is promised of the image of an application's program.
-use Rattle.std.proofs.Common.{◌≡◌, ℕ, List, map, refl, sym, ap, subst, ◌∙◌}
+-- What is promised of the image of a program.
+use Rattle.std.proofs.Common.{◌≡◌, ◌*◌, ℕ, List, [], length, subst, Result, Ok, Err, IfOk}
 use Rattle.nm_base.specs.declared.fault.Fault.{Fault}
-use Rattle.nm_base.specs.declared.fault.Fault.TheVariants as fault
 use Rattle.nesc_core.specs.Plain.{Program}
+use Rattle.msp_isa.specs.declared.image.Image.{Image}
 use Rattle.msp_isa.specs.Image.{IsImage}
-use Rattle.msp_layout.specs.Laid.{FitsRam, HasCause}
+use Rattle.msp_layout.specs.Bytes.{HasBytes}
+use Rattle.msp_layout.specs.Laid.{FitsRam}
 use Rattle.program_image.specs.Order.{lines_of, reset_place}
 use Rattle.image_code.specs.Code.{code_of, data_bytes}
-use Rattle.image_code.specs.Laws.{IsCompilable, RunsProgram}
-use Rattle.constant_programs.specs.Laws.{ConstantWritesCompile, ConstantWritesFit}
-use Rattle.nm_driver.specs.declared.answer.Stop.{Stop}
-use Rattle.nm_driver.specs.declared.answer.Stop.TheVariants as stop
-use Rattle.write_forms.specs.Form.{constant_of}
+use Rattle.image_code.specs.Laws.{RunsProgram}
+use Rattle.compilable_programs.specs.Laws.{LaidImagesHaveRoom}
+use Rattle.nm_driver.specs.Applications.{CanBeBuilt}
 use Rattle.nm_driver.specs.MeetsProgram.{MeetsProgram}
-use Rattle.nm_driver.specs.Prepared.{IfSays, IsApplication, IsNoMemory}
 
-module _ (p : Program) (a : IsApplication p) where
-  pub compilable : ConstantWritesCompile → IsCompilable p
-  compilable law = subst IsCompilable (sym a.is) (law a.app (map constant_of a.writes) a.good)
-
-  no_bytes : data_bytes p ≡ 0
-  no_bytes = ap data_bytes a.is
-
-  pub meets : (words vectors : List ℕ) (ram stack : ℕ) → IsImage words vectors → RunsProgram p words vectors stack → ram ≡ data_bytes p → FitsRam (code_of p) (lines_of p) (reset_place p) ram stack → MeetsProgram p words vectors ram stack
-  meets words vectors ram stack image runs is fits = record {
+module _ (p : Program) where
+  pub meets : (r : Result Image Fault) → IfOk r (λ i. IsImage i.code.items i.vectors) → IfOk r (λ i. RunsProgram p i.code.items i.vectors i.stack) → IfOk r (λ i. i.ram ≡ data_bytes p)
+      → IfOk r (λ i. FitsRam (code_of p) (lines_of p) (reset_place p) i.ram i.stack) → IfOk r (λ i. MeetsProgram p i.code.items i.vectors i.ram i.stack)
+  meets (Err e) image runs is fits = tt
+  meets (Ok i) image runs is fits = record {
     allowed = λ b rows n board given. (runs b rows n board given).0;
     bounded = λ b rows n board given. (runs b rows n board given).1;
     image = image;
-    no_data = is ∙ no_bytes;
+    bytes = is;
     fits = fits.fits;
   }
 
-  -- no fault but want of memory
-  pub only_memory : ConstantWritesFit → (e : Fault) → HasCause (code_of p) (lines_of p) (reset_place p) (data_bytes p) e → e ≡ fault.NoMemory
-  only_memory law e cause =
-      law a.app (map constant_of a.writes) e a.good
-      (subst (λ q. HasCause (code_of q) (lines_of q) (reset_place q) (data_bytes q) e) a.is cause)
-
--- which is no answer with a line
-pub no_answer : (e : Fault) → e ≡ fault.NoMemory → (s : Stop) → IfSays s (λ a. IsNoMemory e → ⊥) → s ≡ stop.NoMemory
-no_answer e is (stop.Says a) found = absurd (found (subst IsNoMemory (sym is) tt))
-no_answer e is stop.NoMemory found = refl
+  pub can_be_built : LaidImagesHaveRoom → p.tasks ≡ [] → (r : Result Image Fault) → IfOk r (λ i. IsImage i.code.items i.vectors) → IfOk r (λ i. HasBytes (code_of p) (2 * length i.code.items)) → IfOk r (λ i. i.ram ≡ data_bytes p)
+      → IfOk r (λ i. FitsRam (code_of p) (lines_of p) (reset_place p) i.ram i.stack) → IfOk r (λ i. CanBeBuilt p)
+  can_be_built law none (Err e) image bytes is fits = tt
+  can_be_built law none (Ok i) image bytes is fits = record {
+    no_tasks = none;
+    has_room = λ room need. law (code_of p) (lines_of p) (reset_place p) (data_bytes p) i.stack i.code.items i.vectors image bytes
+        (subst (λ n. FitsRam (code_of p) (lines_of p) (reset_place p) n i.stack) is fits) room need;
+  }

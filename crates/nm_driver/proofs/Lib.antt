@@ -1,8 +1,7 @@
 pub mod Causes
 pub mod Compiled
 pub mod Built
-pub mod NoRaces
+pub mod Reading
 pub mod Runs
 pub mod Headline
 pub mod Written
-pub mod Writable

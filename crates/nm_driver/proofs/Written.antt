@@ -2,7 +2,7 @@
 use Rattle.std.proofs.Common.{◌≡◌, inl, inr, ⊎_elim, ℕ, List, [], Some, None, refl, sym, ap, subst}
 use Rattle.nm_base.specs.Outside.{AppendsPart, FilesSeen, Rose, SinkSeen, appended}
 use Rattle.nesc_preproc.specs.Expands.{Told}
-use Rattle.application_file.specs.OneReading.{OneReading}
+use Rattle.nesc_programs.specs.OneApplication.{OneApplication}
 use Rattle.mote_devices.specs.declared.state.BoardState.{BoardState}
 use Rattle.nm_driver.specs.declared.answer.Stop.{Stop}
 use Rattle.nm_driver.specs.declared.answer.Stop.TheVariants as stop
@@ -11,7 +11,7 @@ use Rattle.nm_driver.specs.declared.status.Status.TheVariants.{Done, Refused, Us
 use Rattle.nm_driver.specs.Output.{HasText, IfMissing, IsAnswer, IsDone, IsDue, IsOutput, IsReady, IsTextOf, Wrote}
 use Rattle.nm_driver.specs.Prepared.{Ends, IfSays, IsRunStatus, Performs, TakesAnswer, line_of}
 use Rattle.nm_words.specs.Asked.{Asked, AreInUse, help, request, version}
-use Rattle.nm_driver.specs.Lines.{answer_line}
+use Rattle.nm_driver.specs.Lines.{plain_line}
 use Rattle.nm_driver.proofs.Causes.{done_or_fault, has_subject}
 
 module _ (words : List (List ℕ)) (board : BoardState) (files files' : FilesSeen) (out out' : SinkSeen) (same : files'.texts ≡ files.texts) where
@@ -105,7 +105,7 @@ module _ (words : List (List ℕ)) (board : BoardState) (files files' : FilesSee
   whole (BadImage n) text h e = (text, h, e)
 
   -- its line was taken
-  answered : OneReading → (s : Status) (text : List ℕ) → IsDue files.texts words board s text → (s ≡ ReadFault → Rose files.faults files'.faults)
+  answered : OneApplication → (s : Status) (text : List ℕ) → IsDue files.texts words board s text → (s ≡ ReadFault → Rose files.faults files'.faults)
       → IfMissing s (λ name. Rose (files.misses name) (files'.misses name)) → (r : Status) → r ≡ s → out'.taken ≡ appended out.taken text → IsAnswer words board r files files' out out'
   answered one s text due failed missed r is taken = subst (λ x. IsAnswer words board x files files' out out') (sym is) (record {
     same = same;
@@ -119,7 +119,7 @@ module _ (words : List (List ℕ)) (board : BoardState) (files files' : FilesSee
     output = whole s text due.is_text taken;
   })
 
-  pub ended : OneReading → (stop : Stop) (r : Status)
+  pub ended : OneApplication → (stop : Stop) (r : Status)
       → IfSays stop (λ a. (b : BoardState) → IsDue files.texts words b a.status (line_of a))
       → IfSays stop (λ a. a.status ≡ ReadFault → Rose files.faults files'.faults)
       → IfSays stop (λ a. IfMissing a.status (λ name. Rose (files.misses name) (files'.misses name)))
@@ -132,9 +132,9 @@ module _ (words : List (List ℕ)) (board : BoardState) (files files' : FilesSee
       ends
 
   -- the words are not in use
-  pub not_in_use : (AreInUse words → ⊥) → (stopped : Stop) → stopped ≡ stop.Says (record { status = Usage; file = None }) → (r : Status) → Ends stopped r out out' → IsAnswer words board r files files' out out'
+  pub not_in_use : (AreInUse words → ⊥) → (stopped : Stop) → stopped ≡ stop.Says (record { status = Usage; place = None }) → (r : Status) → Ends stopped r out out' → IsAnswer words board r files files' out out'
   not_in_use none stopped is r ends =
-      let line : List ℕ = answer_line [] Usage in
+      let line : List ℕ = plain_line Usage in
       let due : IsDue files.texts words board Usage line = record { is_text = refl; cause = λ told e. none; usage = λ e. none; not_usage = λ n. tt } in
       let said : TakesAnswer Usage r out out' line = subst (λ x. Ends x r out out') is ends in
       ⊎_elim

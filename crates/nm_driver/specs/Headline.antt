@@ -17,7 +17,7 @@ use Rattle.mote_text.specs.ImageText.{image_text}
 use Rattle.nm_words.specs.declared.mode.Mode.TheVariants.{Run}
 use Rattle.nm_driver.specs.declared.status.Status.TheVariants.{Done}
 use Rattle.nm_words.specs.Asked.{AreWords, Requested, request}
-use Rattle.boot_writes.specs.Application.{HasNames, HasProgram}
+use Rattle.nesc_programs.specs.Programs.{HasNames, HasProgram}
 use Rattle.nm_driver.specs.NamedFiles.{HasSchedule}
 use Rattle.nm_driver.specs.RunText.{IsReportText, run_text}
 use Rattle.nm_driver.specs.Output.{IsAnswer}

@@ -1,6 +1,7 @@
 pub mod Status
 pub mod Lines
 pub mod RunText
+pub mod Applications
 pub mod NamedFiles
 pub mod MeetsProgram
 pub mod Output

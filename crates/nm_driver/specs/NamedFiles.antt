@@ -11,12 +11,12 @@ use Rattle.mote_devices.specs.declared.shown.Due.{Due}
 use Rattle.mote_text.specs.ImageLines.{image_of}
 use Rattle.mote_text.specs.ScheduleText.{schedule_of}
 use Rattle.nesc_core.specs.Plain.{Program}
-use Rattle.boot_writes.specs.Application.{HasProgram, IsStopped}
 use Rattle.nm_words.specs.declared.mode.Mode.{Mode}
-use Rattle.nm_words.specs.declared.mode.Mode.TheVariants.{Mote}
+use Rattle.nm_words.specs.declared.mode.Mode.TheVariants.{Check, Build, Run, Mote}
 use Rattle.nm_driver.specs.declared.status.Status.{Status}
 use Rattle.nm_driver.specs.declared.status.Status.TheVariants as status
 use Rattle.nm_driver.specs.declared.status.Status.TheVariants.{Missing, ReadFault, BadSchedule, Limit, BadImage}
+use Rattle.nm_driver.specs.Applications.{HasApplication, IsRefused}
 
 -- ---- one file
 
@@ -102,19 +102,24 @@ status_of (fault.Limit l) = status.Limit l
 status_of (fault.TooLarge room need) = status.TooLarge room need
 status_of fault.NoMemory = status.NoMemory
 
-pub record SourceStops (told : Told) (app : List ℕ) (status : Status) : Type 0 where
+pub record SourceStops (told : Told) (mode : Mode) (app : List ℕ) (status : Status) : Type 0 where
   pub fault : Fault
-  pub known : Known
-  pub stopped : IsStopped told app fault known
+  pub known : Option Known
+  pub program : Option Program
+  pub refused : IsRefused told mode app fault known program
   pub answer : status ≡ status_of fault
 
 -- ---- what is run
 
--- an application with its wired program, or an image
+-- an application that the mode takes, or an image
 abbrev pub HasSubject : Told → Mode → List ℕ → Type 0
+HasSubject told Check app = HasApplication told Check app
+HasSubject told Build app = HasApplication told Build app
+HasSubject told Run app = HasApplication told Run app
 HasSubject told Mote name = (image : ℕ → ℕ) × HasImage told name image
-HasSubject told _ app = (program : Program) × HasProgram told app program
 
 abbrev pub SubjectStops : Told → Mode → List ℕ → Status → Type 0
+SubjectStops told Check app status = SourceStops told Check app status
+SubjectStops told Build app status = SourceStops told Build app status
+SubjectStops told Run app status = SourceStops told Run app status
 SubjectStops told Mote name status = ImageStops told name status
-SubjectStops told _ app status = SourceStops told app status

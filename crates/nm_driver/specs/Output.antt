@@ -1,5 +1,5 @@
 -- What the top call answers and writes (own).
-use Rattle.std.specs.Prelude.{◌≡◌, ◌⊎◌, ℕ, List, [], Option, Some, unwrap_or, slice_get}
+use Rattle.std.specs.Prelude.{◌≡◌, ◌⊎◌, ℕ, List, [], Option, Some, unwrap_or}
 use Rattle.nm_base.specs.declared.refusal.Refusal.{Refusal}
 use Rattle.nm_base.specs.declared.fault.Fault.TheVariants as fault
 use Rattle.nm_base.specs.Outside.{AppendsPart, FilesSeen, Rose, SinkSeen, appended}
@@ -13,11 +13,13 @@ use Rattle.nesc_core.specs.Plain.{Program}
 use Rattle.mote_run.specs.RunText.{mote_text}
 use Rattle.nm_words.specs.Asked.{Asked, AreInUse, AreWords, Requested, help, request, version}
 use Rattle.nm_words.specs.Texts.{help_text, version_text}
-use Rattle.nm_driver.specs.Lines.{answer_line}
+use Rattle.nm_driver.specs.Lines.{answer_line, detail, plain_line}
 use Rattle.nm_driver.specs.RunText.{IsReportText, build_text, run_text}
 use Rattle.nm_driver.specs.MeetsProgram.{MeetsProgram}
-use Rattle.application_file.specs.Read.{source_file}
-use Rattle.boot_writes.specs.Application.{HasNames, HasProgram, IsStopped}
+use Rattle.nesc_preproc.specs.Kept.{name_at}
+use Rattle.wire_loading.specs.Needs.{file_of}
+use Rattle.nesc_programs.specs.Programs.{HasNames, HasProgram}
+use Rattle.nm_driver.specs.Applications.{CanBeBuilt, IsAccepted, IsOfSource, IsRefused}
 use Rattle.nm_driver.specs.NamedFiles.{HasImage, HasSchedule, HasSubject, ScheduleStops, SubjectStops}
 use Rattle.nm_words.specs.declared.mode.Mode.{Mode}
 use Rattle.nm_words.specs.declared.mode.Mode.TheVariants.{Check, Build, Run, Mote}
@@ -72,10 +74,11 @@ IsUsageOrLess _ = ⊥
 
 -- ---- texts
 
--- the wired program of an application, and the text of its report; the files have that program and these names, where they are told
+-- the wired program of an application, of which nothing is refused, and the text of its report; the files have that program and these names, where they are told
 pub record Reported (told : Option Told) (app : List ℕ) : Type 0 where
   pub program : Program
   pub names : ℕ → Option (List ℕ)
+  pub accepted : IsAccepted program
   pub report : List ℕ
   pub reports : IsReportText names program report
   pub has : (files : Told) → told ≡ Some files → HasProgram files app program
@@ -83,6 +86,7 @@ pub record Reported (told : Option Told) (app : List ℕ) : Type 0 where
 
 -- an image that does what the program allows, with its data and stack
 pub record Built (program : Program) : Type 0 where
+  pub builds : CanBeBuilt program
   pub code : List ℕ
   pub vectors : List ℕ
   pub ram : ℕ
@@ -119,22 +123,18 @@ pub record IsOutput (told : Option Told) (words : List (List ℕ)) (board : Boar
   pub is_text : IsTextOf told asked board text
 
 -- the name of the file in which a refusal stands
-abbrev pub file_of : Known → List ℕ → Refusal → List ℕ
-file_of known file r = unwrap_or (slice_get known.names (refusal_pos r).file) file
+abbrev pub place_file : Option Known → (app : List ℕ) → Refusal → List ℕ
+place_file known app r = unwrap_or (name_at known (refusal_pos r).file) (file_of app)
 
--- a mode that reads an application
-abbrev pub IsOfSource : Mode → Type 0
-IsOfSource Mote = ⊥
-IsOfSource _ = Unit {0}
-
--- the line of a refusal, with the name of its file
+-- the line of a refusal, with the name of its file, and the bodies of a chain of calls
 pub record IsRefusalLine (told : Option Told) (words : List (List ℕ)) (r : Refusal) (text : List ℕ) : Type 0 where
   pub asked : Requested
   pub words_are : AreWords words (request asked)
-  pub compiles : IsOfSource asked.mode
-  pub known : Known
-  pub line : text ≡ answer_line (file_of known (source_file asked.subject) r) (Refused r)
-  pub source : (files : Told) → told ≡ Some files → IsStopped files asked.subject (fault.Refused r) known
+  pub of_source : IsOfSource asked.mode
+  pub known : Option Known
+  pub program : Option Program
+  pub line : text ≡ answer_line (place_file known asked.subject r) (detail program r) (Refused r)
+  pub source : (files : Told) → told ≡ Some files → IsRefused files asked.mode asked.subject (fault.Refused r) known program
 
 -- the text that goes with an answer
 abbrev pub HasText : Option Told → List (List ℕ) → BoardState → Status → List ℕ → Type 0
@@ -142,7 +142,7 @@ HasText told words board Done text = IsOutput told words board text
 HasText told words board (Refused r) text = IsRefusalLine told words r text
 HasText told words board WriteFault text = ⊥
 HasText told words board NoMemory text = ⊥
-HasText told words board status text = text ≡ answer_line [] status
+HasText told words board status text = text ≡ plain_line status
 
 -- an answer that is due, and its text
 pub record IsDue (told : Option Told) (words : List (List ℕ)) (board : BoardState) (status : Status) (text : List ℕ) : Type 0 where

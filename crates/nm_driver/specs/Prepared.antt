@@ -1,5 +1,5 @@
 -- What is found before anything is written (own).
-use Rattle.std.specs.Prelude.{◌≡◌, ◌⊎◌, ℕ, List, [], ◌++◌, Option, Some, None, Result, IfErr, map, string_bytes, unwrap_or}
+use Rattle.std.specs.Prelude.{◌≡◌, ◌⊎◌, ℕ, List, [], ◌++◌, Option, Some, None, Result, IfErr, string_bytes}
 use Rattle.nm_base.specs.declared.fault.Fault.{Fault}
 use Rattle.nm_base.specs.declared.fault.Fault.TheVariants as fault
 use Rattle.nm_base.specs.Outside.{AppendsPart, FilesSeen, IsReadBy, Rose, SinkSeen, appended}
@@ -8,14 +8,13 @@ use Rattle.nesc_preproc.specs.Expands.{Told}
 use Rattle.mote_devices.specs.declared.state.BoardState.{BoardState}
 use Rattle.mote_devices.specs.declared.shown.Due.{Due}
 use Rattle.nesc_core.specs.Plain.{Program}
-use Rattle.constant_programs.specs.Laws.{AreGoodWrites}
 use Rattle.msp_isa.specs.Image.{bytes_map}
 use Rattle.mote_text.specs.ImageText.{image_text}
 use Rattle.mote_run.specs.RunText.{mote_text}
 use Rattle.nm_driver.specs.declared.answer.Answer.{Answer}
+use Rattle.nm_driver.specs.declared.answer.Place.{Place}
 use Rattle.nm_driver.specs.declared.answer.Stop.{Stop}
 use Rattle.nm_driver.specs.declared.answer.Stop.TheVariants as stop
-use Rattle.write_forms.specs.declared.form.Constant.{Constant}
 use Rattle.nm_driver.specs.declared.subject.Built.{Built}
 use Rattle.nm_driver.specs.declared.subject.Head.{Head}
 use Rattle.nm_driver.specs.declared.subject.Subject.{Subject}
@@ -23,17 +22,16 @@ use Rattle.nm_driver.specs.declared.prepared.Prepared.{Prepared}
 use Rattle.mote_text.specs.declared.text_fault.TextFault.{TextFault}
 use Rattle.mote_text.specs.declared.text_fault.TextFault.TheVariants as text
 use Rattle.nm_words.specs.declared.mode.Mode.{Mode}
-use Rattle.nm_words.specs.declared.mode.Mode.TheVariants.{Mote}
+use Rattle.nm_words.specs.declared.mode.Mode.TheVariants.{Check, Build, Run, Mote}
 use Rattle.nm_driver.specs.declared.status.Status.{Status}
 use Rattle.nm_driver.specs.declared.status.Status.TheVariants.{Done, Missing, ReadFault, WriteFault, BadSchedule, Limit, NoMemory, BadImage}
-use Rattle.nm_driver.specs.Lines.{answer_line}
-use Rattle.application_file.specs.Read.{source_file}
-use Rattle.write_forms.specs.Form.{constant_of}
-use Rattle.write_forms.specs.Wired.{wired}
-use Rattle.boot_writes.specs.Application.{IsStopped}
+use Rattle.nm_driver.specs.Lines.{answer_line, detail, plain_line}
+use Rattle.nesc_core.specs.View.{program_of}
+use Rattle.nesc_programs.specs.declared.application.Application.{Application}
+use Rattle.nm_driver.specs.Applications.{IsRefused, IsRefusedIn}
 use Rattle.nm_driver.specs.NamedFiles.{ImageStops, status_of}
 use Rattle.nm_driver.specs.RunText.{trace_line}
-use Rattle.nm_driver.specs.Output.{IfMissing, Prints, file_of}
+use Rattle.nm_driver.specs.Output.{IfMissing, Prints, place_file}
 
 -- ---- answers
 
@@ -41,9 +39,17 @@ abbrev pub IfSays : Stop → (Answer → Type 0) → Type 0
 IfSays (stop.Says answer) P = P answer
 IfSays stop.NoMemory P = Unit {0}
 
+abbrev pub file_in : Option Place → List ℕ
+file_in None = []
+file_in (Some place) = place.file
+
+abbrev pub detail_in : Option Place → List ℕ
+detail_in None = []
+detail_in (Some place) = place.detail.items
+
 -- the line of an answer
 abbrev pub line_of : Answer → List ℕ
-line_of answer = answer_line (unwrap_or answer.file []) answer.status
+line_of answer = answer_line (file_in answer.place) (detail_in answer.place) answer.status
 
 -- files were read on the way to something, or to an answer
 abbrev pub Reads : {A : Type 0} → Result A Stop → FilesSeen → FilesSeen → Type 0
@@ -60,7 +66,7 @@ IsLined _ = ⊥
 
 pub record SaysOf (told : Option Told) (Stops : Told → Status → Type 0) (answer : Answer) : Type 0 where
   pub lined : IsLined answer.status
-  pub line : line_of answer ≡ answer_line [] answer.status
+  pub line : line_of answer ≡ plain_line answer.status
   pub cause : (files : Told) → told ≡ Some files → Stops files answer.status
 
 -- the answer that a text's fault gives
@@ -75,36 +81,46 @@ abbrev pub IsTextFault : TextFault → Type 0
 IsTextFault text.NoMemory = ⊥
 IsTextFault _ = Unit {0}
 
--- ---- the application's file
+-- ---- an application
 
--- the name of the file in which a fault stands, where it is a refusal
-abbrev pub fault_file : Known → List ℕ → Fault → List ℕ
-fault_file known file (fault.Refused r) = file_of known file r
-fault_file known file _ = []
+-- where a fault stands, where it is a refusal
+abbrev pub fault_file : Option Known → (app : List ℕ) → Fault → List ℕ
+fault_file known app (fault.Refused r) = place_file known app r
+fault_file known app _ = []
+
+abbrev pub fault_detail : Option Program → Fault → List ℕ
+fault_detail program (fault.Refused r) = detail program r
+fault_detail program _ = []
 
 abbrev pub IsNoMemory : Fault → Type 0
 IsNoMemory fault.NoMemory = Unit {0}
 IsNoMemory _ = ⊥
 
--- the wired program of an application: some writes of words to ports, few enough
-pub record IsApplication (program : Program) : Type 0 where
-  pub app : List ℕ
-  pub writes : List Constant
-  pub good : AreGoodWrites (map constant_of writes)
-  pub is : program ≡ wired app writes
-
--- an answer about the files of an application
-pub record SaysOfSource (told : Option Told) (app : List ℕ) (answer : Answer) : Type 0 where
-  pub cause : Fault
-  pub known : Known
+-- the answer to a fault, with its line
+pub record SaysFault (app : List ℕ) (known : Option Known) (program : Option Program) (cause : Fault) (answer : Answer) : Type 0 where
   pub found : IsNoMemory cause → ⊥
   pub is_status : answer.status ≡ status_of cause
-  pub is_line : line_of answer ≡ answer_line (fault_file known (source_file app) cause) (status_of cause)
-  pub source : (files : Told) → told ≡ Some files → IsStopped files app cause known
+  pub is_line : line_of answer ≡ answer_line (fault_file known app cause) (fault_detail program cause) (status_of cause)
+
+-- an answer about the files of an application
+pub record SaysOfSource (told : Option Told) (mode : Mode) (app : List ℕ) (answer : Answer) : Type 0 where
+  pub cause : Fault
+  pub known : Option Known
+  pub program : Option Program
+  pub says : SaysFault app known program cause answer
+  pub source : (files : Told) → told ≡ Some files → IsRefused files mode app cause known program
+
+-- an answer about the program of an application
+pub record SaysOfProgram (mode : Mode) (app : List ℕ) (a : Application) (answer : Answer) : Type 0 where
+  pub cause : Fault
+  pub says : SaysFault app a.reading (Some (program_of a.program)) cause answer
+  pub refused : IsRefusedIn mode (program_of a.program) cause
 
 abbrev pub SaysOfSubject : Option Told → Mode → List ℕ → Answer → Type 0
+SaysOfSubject told Check app answer = SaysOfSource told Check app answer
+SaysOfSubject told Build app answer = SaysOfSource told Build app answer
+SaysOfSubject told Run app answer = SaysOfSource told Run app answer
 SaysOfSubject told Mote name answer = SaysOf told (λ files. ImageStops files name) answer
-SaysOfSubject told _ app answer = SaysOfSource told app answer
 
 -- ---- a run
 

@@ -2,18 +2,25 @@
 
 ghost use Rattle.std.specs.Prelude.{◌≡◌, ◌++◌, ◌∷◌, [], None, IfOk, OnOk, codes, decimal};
 ghost use Rattle.nm_driver.specs.declared.answer.Stop.TheVariants.{NoMemory as StopNoMemory, Says as StopSays};
-ghost use Rattle.nm_driver.specs.Lines.{answer_line, detail, limit_text, number_text, place_text, refusal_text, room_text};
-ghost use Rattle.nm_driver.specs.Prepared.{line_of};
+ghost use Rattle.nm_driver.specs.Lines.{answer_line, limit_text, number_text, place_text, refusal_text, room_text};
+ghost use Rattle.nm_driver.specs.Prepared.{detail_in, file_in, line_of};
 
 use crate::status::Status;
 use nm_base::{Limit, Name, NoMemory, Refusal, Room};
 use std::alloc::{AllocError, Global};
 
-/// What is to be answered, and the file in which a refusal stands.
+/// Where a refusal stands: its file, and what is told behind its numbers.
+#[derive(Drop)]
+pub(crate) struct Place {
+    pub file: Name,
+    pub detail: Vec<u8>,
+}
+
+/// What is to be answered, and where a refusal stands.
 #[derive(Drop)]
 pub(crate) struct Answer {
     pub status: Status,
-    pub file: Option<Name>,
+    pub place: Option<Place>,
 }
 
 /// Why there is no run: an answer, or want of memory.
@@ -60,24 +67,18 @@ fn push_place(alloc: Global, text: &mut Vec<u8>, refusal: &Refusal) -> Result<()
     Ok(())
 }
 
-// The word of a form that is left out.
-fn push_detail(text: &mut Vec<u8>, refusal: &Refusal) -> Result<(), NoMemory>
-    ensures { OnOk result (text.new.items ≡ text.old.items ++ detail refusal.now) }
-{
-    if let Refusal::LeftOut(_, left) = refusal {
-        text.push(b' ')?;
-        text.extend_from_slice(left.word().as_bytes())?;
-    }
-    Ok(())
-}
-
-fn refusal_line(alloc: Global, file: &[u8], refusal: &Refusal) -> Result<Vec<u8>, NoMemory>
-    ensures { IfOk result (λ v. v.items ≡ refusal_text file.now refusal.now ++ 10 ∷ []) }
+fn refusal_line(
+    alloc: Global,
+    file: &[u8],
+    detail: &[u8],
+    refusal: &Refusal,
+) -> Result<Vec<u8>, NoMemory>
+    ensures { IfOk result (λ v. v.items ≡ refusal_text file.now detail.now refusal.now ++ 10 ∷ []) }
 {
     let mut text = number_text(alloc, refusal)?;
     text.extend_from_slice(file)?;
     push_place(alloc, &mut text, refusal)?;
-    push_detail(&mut text, refusal)?;
+    text.extend_from_slice(detail)?;
     text.push(b'\n')?;
     Ok(text)
 }
@@ -118,12 +119,17 @@ fn numbered_line(alloc: Global, what: &str, line: u32) -> Result<Vec<u8>, NoMemo
     Ok(text.as_bytes().to_vec(alloc)?)
 }
 
-// The line of an answer, where a refusal stands in this file.
-fn answer_line(alloc: Global, file: &[u8], status: &Status) -> Result<Vec<u8>, NoMemory>
-    ensures { IfOk result (λ v. v.items ≡ answer_line file.now status.now) }
+// The line of an answer, where a refusal stands in this file and has this detail.
+fn answer_line(
+    alloc: Global,
+    file: &[u8],
+    detail: &[u8],
+    status: &Status,
+) -> Result<Vec<u8>, NoMemory>
+    ensures { IfOk result (λ v. v.items ≡ answer_line file.now detail.now status.now) }
 {
     match status {
-        Status::Refused(refusal) => refusal_line(alloc, file, refusal),
+        Status::Refused(refusal) => refusal_line(alloc, file, detail, refusal),
         Status::Usage => {
             Ok(b"usage: nescmote MODE APP [SCHEDULE] [--budget N]\n".to_vec(alloc)?)
         }
@@ -137,20 +143,42 @@ fn answer_line(alloc: Global, file: &[u8], status: &Status) -> Result<Vec<u8>, N
     }
 }
 
+fn file_in(place: &Option<Place>) -> &[u8]
+    ensures { result.now ≡ file_in place.now }
+{
+    match place {
+        Some(place) => place.file.as_bytes(),
+        None => b"",
+    }
+}
+
+fn detail_in(place: &Option<Place>) -> &[u8]
+    ensures { result.now ≡ detail_in place.now }
+{
+    match place {
+        Some(place) => place.detail.as_slice(),
+        None => b"",
+    }
+}
+
 /// The line of an answer.
 pub(crate) fn line_of(alloc: Global, answer: &Answer) -> Result<Vec<u8>, NoMemory>
     ensures { IfOk result (λ v. v.items ≡ line_of answer.now) }
 {
-    let file = match &answer.file {
-        Some(name) => name.as_bytes(),
-        None => b"",
-    };
-    answer_line(alloc, file, &answer.status)
+    answer_line(
+        alloc,
+        file_in(&answer.place),
+        detail_in(&answer.place),
+        &answer.status,
+    )
 }
 
 /// The answer with this status, where no place in a file is told.
 pub(crate) fn says(status: Status) -> Stop
-    ensures { result ≡ StopSays (record { status = status; file = None }) }
+    ensures { result ≡ StopSays (record { status = status; place = None }) }
 {
-    Stop::Says(Answer { status, file: None })
+    Stop::Says(Answer {
+        status,
+        place: None,
+    })
 }

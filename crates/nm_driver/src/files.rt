@@ -1,12 +1,12 @@
 //! What the files of schedules and images give.
 
-ghost use Rattle.std.specs.Prelude.{◌≡◌, [], Some, IfOk, IfErr};
+ghost use Rattle.std.specs.Prelude.{◌≡◌, Some, IfOk, IfErr};
 ghost use Rattle.std.specs.Option.{option_map};
 ghost use Rattle.mote_devices.specs.WordBoards.{AreWordRows, IsWordGiven};
 ghost use Rattle.mote_run.specs.Rows.{DoNotFall};
 ghost use Rattle.nesc_preproc.specs.Expands.{Told};
 ghost use Rattle.msp_isa.specs.Image.{bytes_map};
-ghost use Rattle.nm_driver.specs.Lines.{answer_line};
+ghost use Rattle.nm_driver.specs.Lines.{plain_line};
 ghost use Rattle.nm_driver.specs.NamedFiles.{FileStops, HasImage, HasRows, HasSchedule, ImageStops, IsRead, RowsStop, ScheduleStops};
 ghost use Rattle.nm_driver.specs.Prepared.{IfSays, IsTextFault, Reads, SaysOf, line_of, text_status};
 
@@ -42,7 +42,7 @@ fn read_file<F: Files>(alloc: Global, files: &mut F, name: &str) -> Result<Vec<u
 // The answer about a text.
 fn text_fault(fault: TextFault) -> Stop
     ensures status { IfSays result (λ a. a.status ≡ text_status fault) }
-    ensures line { IfSays result (λ a. line_of a ≡ answer_line [] (text_status fault)) }
+    ensures line { IfSays result (λ a. line_of a ≡ plain_line (text_status fault)) }
     ensures found { IfSays result (λ a. IsTextFault fault) }
 {
     match fault {

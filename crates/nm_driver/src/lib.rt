@@ -3,6 +3,7 @@
 
 mod answer;
 mod compile;
+mod faults;
 mod files;
 mod laws;
 mod prepared;

@@ -3,40 +3,49 @@
 ghost use Rattle.std.specs.Prelude.{◌≡◌, IfOk, IfErr};
 ghost use Rattle.nesc_preproc.specs.Kept.{name_at};
 ghost use Rattle.nesc_core.specs.View.{program_of};
-ghost use Rattle.nm_driver.specs.declared.answer.Stop.TheVariants.{NoMemory as StopNoMemory};
-ghost use Rattle.nm_driver.specs.Prepared.{IsApplication};
+ghost use Rattle.nesc_core.specs.WellFormed.{IsWellFormed};
+ghost use Rattle.race_checker.specs.Computed.{report_of};
+ghost use Rattle.nm_words.specs.declared.mode.Mode.{Mode};
+ghost use Rattle.nm_driver.specs.Applications.{IsAccepted, IsRefusedIn};
+ghost use Rattle.nm_driver.specs.Prepared.{IfSays, SaysOfProgram};
 ghost use Rattle.nm_driver.specs.RunText.{IsReportText};
 
 use crate::answer::Stop;
-use crate::source::says_fault;
+use crate::faults::refused;
 use call_graph::graph;
-use constant_reports::constant_writes_have_no_races;
+use counted_programs::is_counted;
 use nesc_core::Program;
-use nesc_preproc::Reading;
-use race_checker::each_report_is_computed;
+use nesc_programs::Application;
+use nm_base::Fault;
+use race_checker::{Row, each_report_is_computed};
 use race_report::report;
 use race_text::print_report;
 use std::alloc::Global;
 
-/// The text of the report of an application's program. The calls of such a program have no cycle, and it has few rows.
-pub(crate) fn report_text(
-    alloc: Global,
-    program: &Program,
-    reading: &Reading,
-) -> Result<Vec<u8>, Stop>
-    requires wired { IsApplication (program_of program.now) }
-    ensures reports { IfOk result (λ text. IsReportText (name_at reading.now) (program_of program.now) text.items) }
-    ensures memory { IfErr result (λ s. s ≡ StopNoMemory) }
+// The rows of a program whose bodies, nodes and objects can be counted; one with more is want of memory.
+fn rows_of(alloc: Global, p: &Program) -> Result<Vec<Row>, Fault>
+    requires formed { IsWellFormed (program_of p.now) }
+    ensures rows { IfOk result (λ rows. rows.items ≡ report_of (program_of p.now)) }
+    ensures accepted { IfOk result (λ _. IsAccepted (program_of p.now)) }
+    ensures refused { IfErr result (λ e. (mode : Mode) → IsRefusedIn mode (program_of p.now) e) }
 {
-    constant_writes_have_no_races();
+    if !is_counted(p) {
+        return Err(Fault::NoMemory);
+    }
+    let graph = graph(alloc, p)?;
+    report(alloc, p, &graph)
+}
+
+/// The text of the report of an application's program. Refuses a cycle of calls, an item without `async` that a handler reaches, and too many rows.
+pub(crate) fn report_text(alloc: Global, app: &str, a: &Application) -> Result<Vec<u8>, Stop>
+    requires formed { IsWellFormed (program_of a.now.program) }
+    ensures reports { IfOk result (λ text. IsReportText (name_at a.now.reading) (program_of a.now.program) text.items) }
+    ensures accepted { IfOk result (λ _. IsAccepted (program_of a.now.program)) }
+    ensures says { IfErr result (λ s. IfSays s (λ answer. (mode : Mode) → SaysOfProgram mode app.now a.now answer)) }
+{
     each_report_is_computed();
-    let graph = match graph(alloc, program) {
-        Ok(graph) => graph,
-        Err(fault) => return Err(says_fault(None, fault)),
-    };
-    let rows = match report(alloc, program, &graph) {
-        Ok(rows) => rows,
-        Err(fault) => return Err(says_fault(None, fault)),
-    };
-    Ok(print_report(alloc, program, reading, rows.as_slice())?)
+    match rows_of(alloc, &a.program) {
+        Ok(rows) => Ok(print_report(alloc, &a.program, &a.reading, rows.as_slice())?),
+        Err(fault) => Err(refused(alloc, app, &a.reading, Some(&a.program), fault)),
+    }
 }

@@ -1,11 +1,14 @@
 //! What is printed of an application, and what is run: its image, or one from a file.
 
-ghost use Rattle.std.specs.Prelude.{◌≡◌, IfOk, IfErr, string_bytes};
+ghost use Rattle.std.specs.Prelude.{◌≡◌, Some, IfOk, IfErr, string_bytes};
 ghost use Rattle.nesc_core.specs.View.{program_of};
-ghost use Rattle.nm_driver.specs.declared.answer.Stop.TheVariants.{NoMemory as StopNoMemory};
+ghost use Rattle.nesc_core.specs.WellFormed.{IsWellFormed};
+ghost use Rattle.nesc_preproc.specs.Expands.{Told};
+ghost use Rattle.nesc_programs.specs.Programs.{IsProgram};
+ghost use Rattle.nm_driver.specs.Applications.{Builds, CanBeBuilt, IsAccepted};
 ghost use Rattle.nm_driver.specs.MeetsProgram.{MeetsProgram};
 ghost use Rattle.nm_driver.specs.Output.{Reported as ReportedOf};
-ghost use Rattle.nm_driver.specs.Prepared.{IfSays, IsApplication, PrintsAs, Reads, SaysOfSource, SaysOfSubject};
+ghost use Rattle.nm_driver.specs.Prepared.{IfSays, PrintsAs, Reads, SaysOfProgram, SaysOfSource, SaysOfSubject};
 ghost use Rattle.nm_driver.specs.RunText.{sizes_text};
 
 use crate::answer::Stop;
@@ -15,7 +18,7 @@ use crate::report::report_text;
 use crate::source::read_application;
 use mote_text::{Loaded, load_image};
 use msp_isa::Image;
-use nesc_core::Program;
+use nesc_programs::Application;
 use nm_base::{Files, NoMemory};
 use nm_words::Mode;
 use std::alloc::Global;
@@ -41,10 +44,10 @@ pub(crate) struct Subject {
     pub image: Option<Loaded>,
 }
 
-// An application's wired program, and the text of its race report.
+// An application with the text of its race report.
 #[derive(Drop)]
 struct Reported {
-    program: Program,
+    application: Application,
     report: Vec<u8>,
 }
 
@@ -58,25 +61,28 @@ fn sizes_of(alloc: Global, image: &Image) -> Result<String, NoMemory>
 
 fn reported_of<F: Files>(alloc: Global, files: &mut F, app: &str) -> Result<Reported, Stop>
     ensures outside { Reads result (F.seen files.old) (F.seen files.new) }
-    ensures wired { IfOk result (λ r. IsApplication (program_of r.program)) }
-    ensures reported { IfOk result (λ r. (a : ReportedOf (F.seen files.old).texts app.now) × (a.program ≡ program_of r.program) × (a.report ≡ r.report.items)) }
-    ensures says { IfErr result (λ s. IfSays s (SaysOfSource (F.seen files.old).texts app.now)) }
+    ensures formed { IfOk result (λ r. IsWellFormed (program_of r.application.program)) }
+    ensures program { IfOk result (λ r. (told : Told) → (F.seen files.old).texts ≡ Some told → IsProgram told app.now (program_of r.application.program) r.application.reading) }
+    ensures reported { IfOk result (λ r. (a : ReportedOf (F.seen files.old).texts app.now) × (a.program ≡ program_of r.application.program) × (a.report ≡ r.report.items)) }
+    ensures says { IfErr result (λ s. IfSays s (λ a. (mode : Mode) → SaysOfSource (F.seen files.old).texts mode app.now a)) }
 {
     let application = read_application(alloc, files, app)?;
-    let report = report_text(alloc, &application.program, &application.reading)?;
+    let report = report_text(alloc, app, &application)?;
     Ok(Reported {
-        program: application.program,
+        application,
         report,
     })
 }
 
-fn built_of(alloc: Global, program: &Program) -> Result<Built, Stop>
-    requires wired { IsApplication (program_of program.now) }
-    ensures meets { IfOk result (λ b. MeetsProgram (program_of program.now) b.image.code.items b.image.vectors b.image.ram b.image.stack) }
+fn built_of(alloc: Global, app: &str, a: &Application) -> Result<Built, Stop>
+    requires formed { IsWellFormed (program_of a.now.program) }
+    requires accepted { IsAccepted (program_of a.now.program) }
+    ensures meets { IfOk result (λ b. MeetsProgram (program_of a.now.program) b.image.code.items b.image.vectors b.image.ram b.image.stack) }
+    ensures builds { IfOk result (λ _. CanBeBuilt (program_of a.now.program)) }
     ensures sizes { IfOk result (λ b. string_bytes b.sizes ≡ sizes_text b.image.ram b.image.stack) }
-    ensures memory { IfErr result (λ s. s ≡ StopNoMemory) }
+    ensures says { IfErr result (λ s. IfSays s (λ answer. (mode : Mode) → Builds mode → SaysOfProgram mode app.now a.now answer)) }
 {
-    let image = compile(alloc, program)?;
+    let image = compile(alloc, app, a)?;
     Ok(Built {
         sizes: sizes_of(alloc, &image)?,
         image,
@@ -86,7 +92,7 @@ fn built_of(alloc: Global, program: &Program) -> Result<Built, Stop>
 fn checked<F: Files>(alloc: Global, files: &mut F, app: &str) -> Result<Subject, Stop>
     ensures outside { Reads result (F.seen files.old) (F.seen files.new) }
     ensures prints { IfOk result (PrintsAs (F.seen files.old).texts Mode.Check app.now) }
-    ensures says { IfErr result (λ s. IfSays s (SaysOfSource (F.seen files.old).texts app.now)) }
+    ensures says { IfErr result (λ s. IfSays s (SaysOfSource (F.seen files.old).texts Mode.Check app.now)) }
 {
     let reported = reported_of(alloc, files, app)?;
     Ok(Subject {
@@ -101,10 +107,10 @@ fn checked<F: Files>(alloc: Global, files: &mut F, app: &str) -> Result<Subject,
 fn compiled<F: Files>(alloc: Global, files: &mut F, app: &str) -> Result<Subject, Stop>
     ensures outside { Reads result (F.seen files.old) (F.seen files.new) }
     ensures prints { IfOk result (PrintsAs (F.seen files.old).texts Mode.Build app.now) }
-    ensures says { IfErr result (λ s. IfSays s (SaysOfSource (F.seen files.old).texts app.now)) }
+    ensures says { IfErr result (λ s. IfSays s (SaysOfSource (F.seen files.old).texts Mode.Build app.now)) }
 {
     let reported = reported_of(alloc, files, app)?;
-    let built = built_of(alloc, &reported.program)?;
+    let built = built_of(alloc, app, &reported.application)?;
     Ok(Subject {
         head: Some(Head {
             report: reported.report,
@@ -117,10 +123,10 @@ fn compiled<F: Files>(alloc: Global, files: &mut F, app: &str) -> Result<Subject
 fn runnable<F: Files>(alloc: Global, files: &mut F, app: &str) -> Result<Subject, Stop>
     ensures outside { Reads result (F.seen files.old) (F.seen files.new) }
     ensures prints { IfOk result (PrintsAs (F.seen files.old).texts Mode.Run app.now) }
-    ensures says { IfErr result (λ s. IfSays s (SaysOfSource (F.seen files.old).texts app.now)) }
+    ensures says { IfErr result (λ s. IfSays s (SaysOfSource (F.seen files.old).texts Mode.Run app.now)) }
 {
     let reported = reported_of(alloc, files, app)?;
-    let built = built_of(alloc, &reported.program)?;
+    let built = built_of(alloc, app, &reported.application)?;
     let image = load_image(alloc, &built.image)?;
     Ok(Subject {
         head: Some(Head {

@@ -14,11 +14,11 @@ use crate::answer::{Stop, line_of, says};
 use crate::prepared::{Prepared, prepare};
 use crate::status::Status;
 use crate::subject::{Built, Head};
-use application_file::one_reading;
 use mote_bus::Board;
 use mote_devices::{Device, Due};
 use mote_run::{AsMote, BoardMote, MoteOf};
 use mote_text::{Loaded, print_image};
+use nesc_programs::one_application;
 use nm_base::{Files, Sink, WriteFault, write_all};
 use nm_words::{Asked, HELP, Request, VERSION, WordsFault, asked_by};
 use std::alloc::Global;
@@ -58,7 +58,7 @@ fn answer_request<F: Files, S: Sink>(
     ensures { (words : List (List ℕ)) → AreWords words (request (requested wanted.entry)) →
         IsAnswer words (board_of (map ⟦<Box<dyn Device> as Device>⟧.state board.items)) result (F.seen files.old) (F.seen files.new) (S.seen out.old) (S.seen out.new) }
 {
-    one_reading();
+    one_application();
     match prepare(alloc, wanted, files) {
         Ok(prepared) => perform(alloc, &prepared, board, out),
         Err(stop) => write_answer(alloc, stop, out),

@@ -20,7 +20,7 @@ use Rattle.call_graph.proofs.Lists.{nat_either}
 use Rattle.call_graph.proofs.ViewLists.{next_of}
 use Rattle.race_report.specs.Parts.{has_part, struct_has, is_marked}
 
-or_none : (b : Bool) → (b || false) ≡ b
+pub or_none : (b : Bool) → (b || false) ≡ b
 or_none true = refl
 or_none false = refl
 

@@ -1,30 +1,30 @@
 -- The paths that are found, and where there are none.
-use Rattle.std.proofs.Common.{◌≡◌, ℕ, zero, suc, ◌+◌, ◌<◌, ◌≤◌, ◌==◌, Bool, true, false, if◌then◌else◌, List, [], ◌∷◌, length, map, drop, get_or, Option, Some, None, refl, sym, subst, ap, arith, ◌∙◌, eqb-true}
+use Rattle.std.proofs.Common.{◌≡◌, ℕ, zero, suc, ◌<◌, ◌≤◌, ◌==◌, Bool, true, false, if◌then◌else◌, List, [], ◌∷◌, length, map, Option, Some, None, refl, sym, subst, ap, arith, ◌∙◌, eqb-true}
 use Rattle.std.specs.Prelude.{slice_get, slice_index_or}
 use Rattle.std.specs.List.{list_any}
 use Rattle.std.proofs.Math.ListN as list
-use Rattle.std.proofs.Math.ListN.{drop_of_length-le}
 use Rattle.std.proofs.lemmas.Bool.{false≢true}
 use Rattle.std.proofs.lemmas.Bool.Decides.{nat_tests}
-use Rattle.std.proofs.lemmas.Option.{slice_get_within}
+use Rattle.std.proofs.lemmas.Option.{none-some, slice_get_within}
 use Rattle.nesc_core.specs.Plain.{Body, Program}
 use Rattle.nesc_core.specs.Calls.{HasNoCycle}
 use Rattle.call_graph.specs.declared.uses.Use as listed
 use Rattle.call_graph.specs.declared.edges.CallGraph.{CallGraph}
 use Rattle.call_graph.specs.View.{use_of}
-use Rattle.call_graph.specs.Uses.{Use, uses, uses_of}
+use Rattle.call_graph.specs.Uses.{uses, uses_of}
 use Rattle.call_graph.specs.Paths.{callees, bare_callees, base_roots, handler_roots, IsPath}
 use Rattle.call_graph.specs.Graph.{IsGraph}
 use Rattle.call_graph.specs.Least.{least_path, IsOne}
 use Rattle.call_graph.proofs.Chains.{path_is_least, no_path, leads_as, bare_is_call, short}
-use Rattle.call_graph.proofs.ViewLists.{next_of}
 use Rattle.least_paths.specs.declared.ways.Search.{Search}
 use Rattle.least_paths.specs.Backward.{turned}
 use Rattle.least_paths.specs.Searched.{IsSearch, IsLeastOrNone, IsLeastTo, first_end}
 use Rattle.least_paths.proofs.Reading.{at_end}
 use Rattle.least_paths.proofs.First.{worse_both, first_in, first_is_least, none_is_one}
-use Rattle.race_checker.specs.Computed.{is_touching, touches_in, bare_path, async_path}
-use Rattle.race_report.specs.Parts.{is_marked}
+use Rattle.race_checker.specs.Computed.{is_marked, is_touching, touches_in, bare_path, async_path}
+use Rattle.race_report.specs.Parts as parts
+use Rattle.race_report.specs.Firsts.{shared_from}
+use Rattle.race_report.specs.Sites.{shared_path}
 use Rattle.race_report.specs.Known.{body_uses}
 
 -- ---- where there are none
@@ -45,7 +45,7 @@ within p x f touched = by_body (slice_get p.bodies f) refl touched
     by_body (Some b) is holds = slice_get_within p.bodies f b is
 
 module _ (p : Program) (g : CallGraph) (graph : IsGraph p g) where
-  pub not_bare : (f : ℕ) → f < length p.bodies → is_marked g.bare.items f ≡ false → bare_path p f ≡ None
+  pub not_bare : (f : ℕ) → f < length p.bodies → parts.is_marked g.bare.items f ≡ false → bare_path p f ≡ None
   not_bare f inside unmarked = no_one (bare_callees p) (λ k. k == f) (base_roots p) (length p.bodies) (λ path one.
       let there : IsPath (base_roots p) (bare_callees p) path f = subst (IsPath (base_roots p) (bare_callees p) path) (eqb-true one.0 f one.2) one.1 in
       false≢true (sym unmarked ∙ graph.bare.complete f inside (path, there)))
@@ -114,9 +114,19 @@ module _ (p : Program) (ranked : HasNoCycle p) where
         absurd (least (handler_roots p) (callees p) (length p.bodies) h (within p x f first.passes) (turned first.path [])
         (f, at_end s (handler_roots p) (callees p) (length p.bodies) h f first.path first.at (h.back first.path first.there), grind (arith, nat_tests)))
 
--- ---- one body after the other
+-- ---- objects that handlers share
 
-pub first_next : (test : ℕ → Bool) (xs : List ℕ) (k x : ℕ) → k < length xs → x ≡ get_or xs k x → first_end test (drop k xs) ≡ (if test x then Some x else first_end test (drop (k + 1) xs))
-first_next test xs k x below is = ap (first_end test) (next_of xs k x below is)
+module _ (p : Program) (ranked : HasNoCycle p) (s : Search) (x : ℕ) (h : IsSearch (handler_roots p) (callees p) (length p.bodies) s) where
+  pub shared_is : (f : ℕ) → shared_from p s.order.items x ≡ Some f → (o : Option (List ℕ)) → IsLeastTo s f o → o ≡ shared_path p x
+  shared_is f is o least = by_mark (is_marked (slice_get p.objects x)) is
+    where
+      by_mark : (m : Bool) → (if m then None else first_end (touches_in p x) s.order.items) ≡ Some f → o ≡ (if m then None else async_path p x)
+      by_mark true is = absurd (none-some f is)
+      by_mark false is = async_is p ranked s x h f is o least
 
-pub ruleset steps = (first_next, drop_of_length-le)
+  pub unshared : shared_from p s.order.items x ≡ None → None ≡ shared_path p x
+  unshared is = by_mark (is_marked (slice_get p.objects x)) is
+    where
+      by_mark : (m : Bool) → (if m then None else first_end (touches_in p x) s.order.items) ≡ None → None ≡ (if m then None else async_path p x)
+      by_mark true is = refl
+      by_mark false is = async_none p ranked s x h is

@@ -1,5 +1,5 @@
 -- The limit of a report's length (own).
-use Rattle.std.specs.Prelude.{⊤, ◌≡◌, ℕ, ◌<◌, List, length, take}
+use Rattle.std.specs.Prelude.{⊤, ◌≡◌, ℕ, ◌<◌, ◌≤◌, List, length}
 use Rattle.nm_base.specs.declared.limit.Which.TheVariants.{Rows}
 use Rattle.nm_base.specs.declared.fault.Fault.{Fault}
 use Rattle.nm_base.specs.declared.fault.Fault.TheVariants as fault
@@ -11,9 +11,10 @@ use Rattle.race_checker.specs.Computed.{report_of}
 abbrev pub most : ℕ
 most = 10000
 
--- the same rows up to the first one past the limit
-abbrev pub AreAlike : List Row → List Row → Type 0
-AreAlike xs ys = take 10001 xs ≡ take 10001 ys
+-- no more rows than these, and exactly these up to the limit
+pub record IsUpToLimit (whole rows : List Row) : Type 0 where
+  pub no_more : length rows ≤ length whole
+  pub these : length rows ≤ most → rows ≡ whole
 
 -- why there is no report
 abbrev pub IsWhy : Program → Fault → Type 0

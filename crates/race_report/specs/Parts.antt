@@ -1,5 +1,5 @@
 -- Whether values of a type have a part of another type, struct by struct (own).
-use Rattle.std.specs.Prelude.{ℕ, zero, suc, ◌==◌, Bool, false, ◌&&◌, ◌||◌, not, List, [], slice_index_or}
+use Rattle.std.specs.Prelude.{◌≡◌, ℕ, zero, suc, ◌==◌, Bool, false, ◌&&◌, ◌||◌, not, List, [], length, slice_index_or}
 use Rattle.std.specs.List.{list_any}
 use Rattle.nesc_core.specs.Plain.{Ty, void, int, pointer, array, struct, Field}
 use Rattle.nesc_core.specs.Parts.{same_type}
@@ -19,3 +19,7 @@ struct_has structs wanted (suc depth) k = list_any (λ f. has_part wanted (struc
 
 abbrev pub is_marked : List Bool → ℕ → Bool
 is_marked marks k = slice_index_or marks k false
+
+-- the marks tell which structs have one among their fields
+abbrev pub AreMarked : List (List Field) → (wanted : Ty) → List Bool → Type 0
+AreMarked structs wanted marks = (k : ℕ) → is_marked marks k ≡ struct_has structs wanted (length structs) k

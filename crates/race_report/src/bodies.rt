@@ -1,6 +1,6 @@
 //! The bodies of a program, each looked at once.
 
-ghost use Rattle.std.specs.Prelude.{◌≡◌, ◌<◌, [], IfOk, length, map, slice_index_or};
+ghost use Rattle.std.specs.Prelude.{◌≡◌, ◌<◌, ◌≤◌, ◌^◌, [], IfOk, false, length, map, slice_index_or, true};
 ghost use Rattle.nesc_core.specs.Size.{AreSized};
 ghost use Rattle.nesc_core.specs.View.{program_of, structs_of};
 ghost use Rattle.call_graph.specs.Graph.{IsCounted, IsGraph};
@@ -11,6 +11,7 @@ ghost use Rattle.least_paths.specs.Searched.{IsSearch};
 ghost use Rattle.race_report.specs.Known.{IsKnown, body_uses};
 
 use crate::sources::Sources;
+use crate::touched::first_bodies;
 use call_graph::{CallGraph, Use, callees, uses_in};
 use least_paths::{Search, search};
 use nesc_core::Program;
@@ -25,15 +26,21 @@ pub(crate) fn sources<'a>(
     requires counted { IsCounted (program_of p.now) }
     requires graph { IsGraph (program_of p.now) g.now }
     requires sized { AreSized (structs_of p.now.structs) }
+    requires objects { length p.now.objects < 2 ^ 32 }
     ensures known { IfOk result (λ s. IsKnown s) }
     ensures same { IfOk result (λ s. s.p.now ≡ p.now) }
 {
+    let uses = all_uses(alloc, p)?;
+    let handlers = handler_search(alloc, p)?;
+    let firsts = first_bodies(alloc, p, &uses, &handlers.order)?;
+    let base = base_search(alloc, p)?;
     Ok(Sources {
         p,
         g,
-        uses: all_uses(alloc, p)?,
-        handlers: handler_search(alloc, p)?,
-        base: base_search(alloc, p)?,
+        uses,
+        handlers,
+        base,
+        firsts,
     })
 }
 
@@ -84,6 +91,14 @@ fn base_bodies(alloc: Global, p: &Program) -> Result<Vec<u32>, NoMemory>
     bodies.push(p.boot)?;
     bodies.extend_from_slice(p.tasks.as_slice())?;
     Ok(bodies)
+}
+
+/// Whether there is no body `f`.
+pub(crate) fn is_past(all: &[List<Use>], f: u32) -> bool
+    ensures past { result ≡ true → length all.now ≤ f }
+    ensures inside { result ≡ false → f < length all.now }
+{
+    all.len() <= f as usize
 }
 
 /// The accesses and calls of body `f`.

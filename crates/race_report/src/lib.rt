@@ -2,12 +2,15 @@
 #![tactic(auto)]
 
 mod bodies;
+mod kinds;
 mod parts;
 mod paths;
+mod pointed;
 mod reporting;
+mod roots;
 mod rows;
 mod sources;
-mod touch;
+mod touched;
 mod worked;
 
 pub use reporting::report;

@@ -6,10 +6,11 @@ ghost use Rattle.nesc_core.specs.View.{program_of, structs_of};
 ghost use Rattle.call_graph.specs.Graph.{IsCounted, IsGraph};
 ghost use Rattle.race_checker.specs.Computed.{report_of};
 ghost use Rattle.race_report.specs.Known.{IsKnown};
-ghost use Rattle.race_report.specs.Limit.{AreAlike, IsWhy};
+ghost use Rattle.race_report.specs.Limit.{IsUpToLimit, IsWhy};
+ghost use Rattle.race_report.specs.Sites.{IsByObject};
 
 use crate::bodies::sources;
-use crate::rows::push_object;
+use crate::rows::all_rows;
 use crate::sources::Sources;
 use call_graph::CallGraph;
 use nesc_core::Program;
@@ -21,8 +22,9 @@ use std::alloc::Global;
 /// than `MAX_ROWS` is refused by the limit `Rows`.
 ///
 /// Each body is walked once. The least chains to all bodies are found by one search from the boot body and the tasks and one from
-/// the handlers, and those of a row are read off in time linear in their length. For each object without `norace` the accesses of
-/// the bodies that handlers reach are looked at until one touches it, and all accesses where one does.
+/// the handlers, and those of a row are read off in time linear in their length. Each access is looked at once for what handlers
+/// touch and once for its rows, which are sorted by object at the end. A type to which pointers are followed is tried for every
+/// object and compared with that of each access through a pointer, so the time is linear only while these types are few.
 pub fn report(alloc: Global, p: &Program, g: &CallGraph) -> Result<Vec<Row>, Fault>
     requires counted { IsCounted (program_of p.now) }
     requires graph { IsGraph (program_of p.now) g.now }
@@ -43,15 +45,20 @@ pub fn report(alloc: Global, p: &Program, g: &CallGraph) -> Result<Vec<Row>, Fau
     Ok(rows)
 }
 
-// The rows up to the first past the limit.
+// The rows by object, up to one past the limit.
 fn rows_of(alloc: Global, s: &Sources) -> Result<Vec<Row>, NoMemory>
     requires known { IsKnown s.now }
     requires objects { length s.now.p.now.objects < 2 ^ 32 }
-    ensures { IfOk result (λ rows. AreAlike rows.items (report_of (program_of s.now.p.now))) }
+    ensures { IfOk result (λ rows. IsUpToLimit (report_of (program_of s.now.p.now)) rows.items) }
 {
-    let mut rows = Vec::new(alloc);
-    for x in 0..s.p.objects.as_slice().len() {
-        push_object(alloc, s, &mut rows, x as u32)?;
-    }
+    let mut rows = all_rows(alloc, s)?;
+    arrange(&mut rows)?;
     Ok(rows)
+}
+
+fn arrange(rows: &mut Vec<Row>) -> Result<(), NoMemory>
+    ensures { IfOk result (λ _. IsByObject rows.old.items rows.new.items) }
+{
+    rows.sort_by_key(|row| row.object)?;
+    Ok(())
 }

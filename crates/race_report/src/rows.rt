@@ -1,39 +1,202 @@
-//! The rows of an object.
+//! The rows, in the order of their sites.
 
-ghost use Rattle.std.specs.Prelude.{◌≡◌, ◌<◌, ◌++◌, [], ◌∷◌, IfOk, None, Some, false, true, map, length, slice_get, option_to_list};
+ghost use Rattle.std.specs.Prelude.{◌≡◌, ◌<◌, ◌^◌, ◌==◌, ◌++◌, [], ◌∷◌, if◌then◌else◌, IfOk, None, Some, true, length, map};
 ghost use Rattle.std.specs.List.{flat_map};
-ghost use Rattle.nesc_core.specs.View.{object_of, program_of, structs_of};
-ghost use Rattle.nesc_core.specs.Size.{AreSized};
+ghost use Rattle.nesc_core.specs.View.{program_of, type_of};
 ghost use Rattle.call_graph.specs.View.{use_of};
 ghost use Rattle.race_checker.specs.Computed as computed;
 ghost use Rattle.race_report.specs.Known.{IsKnown};
-ghost use Rattle.race_report.specs.Limit.{AreAlike};
-ghost use Rattle.race_report.specs.Sites.{row_at_site, sites_of};
+ghost use Rattle.race_report.specs.Sites.{Gathers, Grows, body_rows, object_rows, row_at, shared_path, site_rows, use_rows};
+ghost use Rattle.race_report.specs.Starts.{is_pointed, may_be, start_of};
 
 use crate::bodies::uses_at;
+use crate::kinds::{Kind, known, shared_objects};
 use crate::parts::is_marked;
 use crate::paths::{async_path, bare_path};
+use crate::roots::{Root, root_of};
 use crate::sources::Sources;
-use crate::touch::touches;
 use call_graph::Use;
-use nesc_core::Program;
-use nm_base::{MAX_ROWS, NoMemory, Path, Pos};
+use nesc_core::CoreType;
+use nm_base::{List, MAX_ROWS, NoMemory, Path, Pos};
 use race_checker::Row;
 use std::alloc::Global;
 
-/// An access outside every atomic statement of its body: its node and its place.
+/// An access outside every atomic statement of its body: the body, and its node and place there.
 #[derive(Clone, Copy)]
 pub(crate) struct Site {
+    pub body: u32,
     pub node: u32,
     pub pos: Pos,
 }
 
-fn site_of(alloc: Global, p: &Program, u: &Use, x: u32) -> Result<Option<Site>, NoMemory>
-    requires { AreSized (structs_of p.now.structs) }
-    ensures { IfOk result (λ found. option_to_list found ≡ sites_of (program_of p.now) x (use_of u.now)) }
+/// The rows so far, and by type the objects at which pointers of sites so far may point.
+#[derive(Drop)]
+pub(crate) struct Gathered<'a> {
+    pub rows: Vec<Row>,
+    pub kinds: Vec<Kind<'a>>,
+}
+
+// No row more is wanted: the first past the limit is there.
+fn is_full(rows: &[Row]) -> bool
+    ensures { result ≡ true → 10000 < length rows.now }
+{
+    rows.len() > MAX_ROWS as usize
+}
+
+fn push_found(
+    rows: &mut Vec<Row>,
+    x: u32,
+    site: Site,
+    async_path: Vec<u32>,
+    path: Vec<u32>,
+) -> Result<(), NoMemory>
+    ensures { IfOk result (λ _. rows.new.items ≡ rows.old.items ++ row_at x site async_path.items path.items ∷ []) }
+{
+    rows.push(Row {
+        object: x,
+        body: site.body,
+        node: site.node,
+        pos: site.pos,
+        path: Path::new(path),
+        async_path: Path::new(async_path),
+    })?;
+    Ok(())
+}
+
+// The row of object `x` at a site that touches it, where a bare path leads to the site.
+fn push_shared(
+    alloc: Global,
+    s: &Sources,
+    rows: &mut Vec<Row>,
+    x: u32,
+    site: Site,
+    async_path: Vec<u32>,
+) -> Result<(), NoMemory>
+    requires known { IsKnown s.now }
+    requires inside { site.body < length s.now.p.now.bodies }
+    requires shared { Some async_path.items ≡ shared_path (program_of s.now.p.now) x }
+    ensures { IfOk result (λ _. Grows (λ y. if x == y then site_rows (program_of s.now.p.now) site x else []) rows.old.items rows.new.items) }
+{
+    match bare_path(alloc, s, site.body)? {
+        Some(path) => push_found(rows, x, site, async_path, path),
+        None => Ok(()),
+    }
+}
+
+// The row of object `x` at a site that touches it, where it has one.
+fn push_row(
+    alloc: Global,
+    s: &Sources,
+    rows: &mut Vec<Row>,
+    x: u32,
+    site: Site,
+) -> Result<(), NoMemory>
+    requires known { IsKnown s.now }
+    requires inside { site.body < length s.now.p.now.bodies }
+    ensures { IfOk result (λ _. Grows (λ y. if x == y then site_rows (program_of s.now.p.now) site x else []) rows.old.items rows.new.items) }
+{
+    if is_full(rows) {
+        return Ok(());
+    }
+    match async_path(alloc, s, x)? {
+        Some(other) => push_shared(alloc, s, rows, x, site, other),
+        None => Ok(()),
+    }
+}
+
+fn push_all(
+    alloc: Global,
+    s: &Sources,
+    rows: &mut Vec<Row>,
+    objects: &[u32],
+    site: Site,
+) -> Result<(), NoMemory>
+    requires known { IsKnown s.now }
+    requires inside { site.body < length s.now.p.now.bodies }
+    ensures { IfOk result (λ _. Grows (λ y. flat_map (λ x. if x == y then site_rows (program_of s.now.p.now) site x else []) objects.now) rows.old.items rows.new.items) }
+{
+    for x in objects {
+        push_row(alloc, s, rows, *x, site)?;
+    }
+    Ok(())
+}
+
+// The objects of a type that is not among the kinds so far.
+fn push_new<'a>(
+    alloc: Global,
+    s: &Sources<'a>,
+    gathered: &mut Gathered<'a>,
+    t: &'a CoreType,
+    site: Site,
+) -> Result<(), NoMemory>
+    requires known { IsKnown s.now }
+    requires objects { length s.now.p.now.objects < 2 ^ 32 }
+    requires inside { site.body < length s.now.p.now.bodies }
+    ensures { IfOk result (λ _. Gathers (program_of s.now.p.now) s.now.handlers.order.items (λ y. if is_pointed (program_of s.now.p.now) (type_of t.now) y then site_rows (program_of s.now.p.now) site y else []) gathered.old gathered.new) }
+{
+    let objects = shared_objects(alloc, s, t)?;
+    push_all(alloc, s, &mut gathered.rows, &objects, site)?;
+    gathered.kinds.push(Kind {
+        ty: t,
+        objects: List::new(objects),
+    })?;
+    Ok(())
+}
+
+fn push_pointed<'a>(
+    alloc: Global,
+    s: &Sources<'a>,
+    gathered: &mut Gathered<'a>,
+    t: &'a CoreType,
+    site: Site,
+) -> Result<(), NoMemory>
+    requires known { IsKnown s.now }
+    requires objects { length s.now.p.now.objects < 2 ^ 32 }
+    requires inside { site.body < length s.now.p.now.bodies }
+    ensures { IfOk result (λ _. Gathers (program_of s.now.p.now) s.now.handlers.order.items (λ y. if is_pointed (program_of s.now.p.now) (type_of t.now) y then site_rows (program_of s.now.p.now) site y else []) gathered.old gathered.new) }
+{
+    if is_full(&gathered.rows) {
+        return Ok(());
+    }
+    match known(&gathered.kinds, t) {
+        Some(objects) => push_all(alloc, s, &mut gathered.rows, objects, site),
+        None => push_new(alloc, s, gathered, t, site),
+    }
+}
+
+fn push_root<'a>(
+    alloc: Global,
+    s: &Sources<'a>,
+    gathered: &mut Gathered<'a>,
+    root: Root<'a>,
+    site: Site,
+) -> Result<(), NoMemory>
+    requires known { IsKnown s.now }
+    requires objects { length s.now.p.now.objects < 2 ^ 32 }
+    requires inside { site.body < length s.now.p.now.bodies }
+    ensures { IfOk result (λ _. Gathers (program_of s.now.p.now) s.now.handlers.order.items (λ y. if may_be (program_of s.now.p.now) (start_of root.entry) y then site_rows (program_of s.now.p.now) site y else []) gathered.old gathered.new) }
+{
+    match root {
+        Root::Object(x) => push_row(alloc, s, &mut gathered.rows, x, site),
+        Root::Local => Ok(()),
+        Root::Pointed(t) => push_pointed(alloc, s, gathered, t, site),
+    }
+}
+
+fn push_use<'a>(
+    alloc: Global,
+    s: &Sources<'a>,
+    gathered: &mut Gathered<'a>,
+    u: &Use<'a>,
+    f: u32,
+) -> Result<(), NoMemory>
+    requires known { IsKnown s.now }
+    requires objects { length s.now.p.now.objects < 2 ^ 32 }
+    requires inside { f < length s.now.p.now.bodies }
+    ensures { IfOk result (λ _. Gathers (program_of s.now.p.now) s.now.handlers.order.items (use_rows (program_of s.now.p.now) f (use_of u.now)) gathered.old gathered.new) }
 {
     match *u {
-        Use::Call { .. } => Ok(None),
+        Use::Call { .. } => Ok(()),
         Use::Access {
             node,
             is_inside,
@@ -41,64 +204,29 @@ fn site_of(alloc: Global, p: &Program, u: &Use, x: u32) -> Result<Option<Site>, 
             pos,
         } => {
             if is_inside {
-                return Ok(None);
-            }
-            if touches(alloc, p, place, x)? {
-                Ok(Some(Site { node, pos }))
+                Ok(())
             } else {
-                Ok(None)
+                let site = Site { body: f, node, pos };
+                push_root(alloc, s, gathered, root_of(place), site)
             }
         }
     }
 }
 
-// The sites among these that touch object `x`.
-#[tactic(auto, using(crate::proofs::RowLemmas::steps))]
-fn bare_sites(alloc: Global, p: &Program, uses: &[Use], x: u32) -> Result<Vec<Site>, NoMemory>
-    requires { AreSized (structs_of p.now.structs) }
-    ensures { IfOk result (λ v. v.items ≡ flat_map (sites_of (program_of p.now) x) (map use_of uses.now)) }
+fn push_uses<'a>(
+    alloc: Global,
+    s: &Sources<'a>,
+    gathered: &mut Gathered<'a>,
+    uses: &[Use<'a>],
+    f: u32,
+) -> Result<(), NoMemory>
+    requires known { IsKnown s.now }
+    requires objects { length s.now.p.now.objects < 2 ^ 32 }
+    requires inside { f < length s.now.p.now.bodies }
+    ensures { IfOk result (λ _. Gathers (program_of s.now.p.now) s.now.handlers.order.items (λ y. flat_map (λ u. use_rows (program_of s.now.p.now) f u y) (map use_of uses.now)) gathered.old gathered.new) }
 {
-    let mut sites = Vec::new(alloc);
     for u in uses {
-        if let Some(site) = site_of(alloc, p, u, x)? {
-            sites.push(site)?;
-        }
-    }
-    Ok(sites)
-}
-
-// An object and a body, with the least paths to the body and to the object.
-#[derive(Clone, Copy)]
-struct Spot<'a> {
-    object: u32,
-    body: u32,
-    path: &'a [u32],
-    async_path: &'a [u32],
-}
-
-// One row more, but none behind the first past the limit.
-fn push_row(alloc: Global, rows: &mut Vec<Row>, at: &Spot, site: Site) -> Result<(), NoMemory>
-    ensures { IfOk result (λ _. AreAlike rows.new.items (rows.old.items ++ row_at_site at.now.object at.now.body at.now.path.now at.now.async_path.now site ∷ [])) }
-{
-    if rows.len() > MAX_ROWS as usize {
-        return Ok(());
-    }
-    rows.push(Row {
-        object: at.object,
-        body: at.body,
-        node: site.node,
-        pos: site.pos,
-        path: Path::new(at.path.to_vec(alloc)?),
-        async_path: Path::new(at.async_path.to_vec(alloc)?),
-    })?;
-    Ok(())
-}
-
-fn push_rows(alloc: Global, rows: &mut Vec<Row>, at: &Spot, sites: &[Site]) -> Result<(), NoMemory>
-    ensures { IfOk result (λ _. AreAlike rows.new.items (rows.old.items ++ map (row_at_site at.now.object at.now.body at.now.path.now at.now.async_path.now) sites.now)) }
-{
-    for site in sites {
-        push_row(alloc, rows, at, *site)?;
+        push_use(alloc, s, gathered, u, f)?;
     }
     Ok(())
 }
@@ -112,84 +240,35 @@ fn is_out_of_reach(s: &Sources, f: u32) -> bool
     !is_marked(&s.g.bare, f)
 }
 
-fn has_none(sites: &[Site]) -> bool
-    ensures { result ≡ true → sites.now ≡ [] }
-{
-    sites.len() == 0
-}
-
-// The rows of sites in body `f`.
-fn push_body(
+fn push_body<'a>(
     alloc: Global,
-    s: &Sources,
-    rows: &mut Vec<Row>,
-    x: u32,
+    s: &Sources<'a>,
+    gathered: &mut Gathered<'a>,
     f: u32,
-    async_path: &[u32],
 ) -> Result<(), NoMemory>
     requires known { IsKnown s.now }
+    requires objects { length s.now.p.now.objects < 2 ^ 32 }
     requires inside { f < length s.now.p.now.bodies }
-    ensures { IfOk result (λ _. AreAlike rows.new.items (rows.old.items ++ computed.rows_in (program_of s.now.p.now) x f async_path.now (computed.bare_path (program_of s.now.p.now) f))) }
+    ensures { IfOk result (λ _. Gathers (program_of s.now.p.now) s.now.handlers.order.items (body_rows (program_of s.now.p.now) f) gathered.old gathered.new) }
 {
     if is_out_of_reach(s, f) {
         return Ok(());
     }
-    let sites = bare_sites(alloc, s.p, uses_at(&s.uses, f), x)?;
-    if has_none(&sites) {
-        return Ok(());
-    }
-    let Some(path) = bare_path(alloc, s, f)? else {
-        return Ok(());
-    };
-    let at = Spot {
-        object: x,
-        body: f,
-        path: &path,
-        async_path,
-    };
-    push_rows(alloc, rows, &at, &sites)
+    push_uses(alloc, s, gathered, uses_at(&s.uses, f), f)
 }
 
-fn push_bodies(
-    alloc: Global,
-    s: &Sources,
-    rows: &mut Vec<Row>,
-    x: u32,
-    async_path: &[u32],
-) -> Result<(), NoMemory>
-    requires { IsKnown s.now }
-    ensures { IfOk result (λ _. AreAlike rows.new.items (rows.old.items ++ computed.rows_for (program_of s.now.p.now) x false (Some async_path.now))) }
+/// The rows of all objects, in the order of their sites, up to one past the limit.
+pub(crate) fn all_rows(alloc: Global, s: &Sources) -> Result<Vec<Row>, NoMemory>
+    requires known { IsKnown s.now }
+    requires objects { length s.now.p.now.objects < 2 ^ 32 }
+    ensures { IfOk result (λ rows. Grows (object_rows (program_of s.now.p.now)) [] rows.items) }
 {
+    let mut gathered = Gathered {
+        rows: Vec::new(alloc),
+        kinds: Vec::new(alloc),
+    };
     for f in 0..s.uses.as_slice().len() {
-        push_body(alloc, s, rows, x, f as u32, async_path)?;
+        push_body(alloc, s, &mut gathered, f as u32)?;
     }
-    Ok(())
-}
-
-fn is_norace(p: &Program, x: u32) -> bool
-    ensures { result ≡ computed.is_marked (slice_get (map object_of p.now.objects) x) }
-{
-    match p.objects.as_slice().get(x as usize) {
-        Some(o) => o.norace,
-        None => true,
-    }
-}
-
-/// The rows of object `x`.
-pub(crate) fn push_object(
-    alloc: Global,
-    s: &Sources,
-    rows: &mut Vec<Row>,
-    x: u32,
-) -> Result<(), NoMemory>
-    requires { IsKnown s.now }
-    ensures { IfOk result (λ _. AreAlike rows.new.items (rows.old.items ++ computed.rows_for (program_of s.now.p.now) x (computed.is_marked (slice_get (map object_of s.now.p.now.objects) x)) (computed.async_path (program_of s.now.p.now) x))) }
-{
-    if is_norace(s.p, x) {
-        return Ok(());
-    }
-    match async_path(alloc, s, x)? {
-        Some(path) => push_bodies(alloc, s, rows, x, &path),
-        None => Ok(()),
-    }
+    Ok(gathered.rows)
 }

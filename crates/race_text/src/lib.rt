@@ -4,4 +4,5 @@
 mod names;
 mod printing;
 
+pub use names::push_path;
 pub use printing::print_report;

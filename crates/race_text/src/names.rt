@@ -80,8 +80,8 @@ fn push_rest(text: &mut Vec<u8>, p: &Program, rest: &[u32]) -> Result<(), NoMemo
     Ok(())
 }
 
-/// The names of a path's bodies.
-pub(crate) fn push_path(text: &mut Vec<u8>, p: &Program, path: &Path) -> Result<(), NoMemory>
+/// Adds the names of a path's bodies to a text, with ` > ` between them. Where there is no memory, what the text then holds is not told.
+pub fn push_path(text: &mut Vec<u8>, p: &Program, path: &Path) -> Result<(), NoMemory>
     ensures { OnOk result (text.new.items ≡ text.old.items ++ spec.path_text (program_of p.now) path.now) }
 {
     let Some((first, rest)) = path.as_slice().split_first() else {

@@ -6,7 +6,6 @@ use Rattle.nesc_tree.specs.declared.components.Unit.{Unit as UnitOf}
 use Rattle.nesc_tree.specs.declared.declarations.Decl.{Decl}
 use Rattle.nesc_tree.specs.Sorts.{Names}
 use Rattle.nesc_preproc.specs.Sources.{Known, nothing_known}
-use Rattle.nesc_preproc.specs.Expands.{Expands}
 use Rattle.wire_units.specs.declared.loaded.Loaded.{Loaded}
 use Rattle.wire_reading.specs.declared.opener.Need.{Need}
 use Rattle.wire_reading.specs.Order.{Name, Reads, Refuses}
@@ -14,13 +13,13 @@ use Rattle.wire_reading.specs.Told.{Told}
 use Rattle.wire_loading.specs.declared.stopped.Stopped.{Stopped}
 use Rattle.wire_loading.specs.Needs.{needs_of, file_of}
 use Rattle.wire_loading.specs.Places.{file_told}
-use Rattle.wire_loading.specs.Opened.{Held, held, loaded, declared, Parsing, Declaring, Opens, Begins, ReadsAs, prelude, main, stopped}
+use Rattle.wire_loading.specs.Opened.{Held, held, loaded, declared, Parsing, Declaring, Opens, Begins, ReadsAs, Spells, prelude, main, stopped}
 
 module _ (Parses : Parsing) (told : Told) (s : Held) (need : Need) where
   -- the file by its name
   expands_as : (file : Name) (known : Option Known) (r : Result (List Token) Fault) → file ≡ file_of need.name
-      → Expands told s.known file r known → Expands told s.known (file_of need.name) r known
-  expands_as file known r at = subst (λ (f : Name). Expands told s.known f r known) at
+      → Spells told s.known file r known → Spells told s.known (file_of need.name) r known
+  expands_as file known r at = subst (λ (f : Name). Spells told s.known f r known) at
 
   -- and where it is refused
   parses_as : (file : Name) (known : Option Known) (ts : List Token) (names : Names) (k : ℕ) (q r : Result UnitOf Fault) → file ≡ file_of need.name
@@ -31,7 +30,7 @@ module _ (Parses : Parsing) (told : Told) (s : Held) (need : Need) where
       (subst (λ (p : Result UnitOf Fault). Parses need.is_interface k ts need.name s.names names p) is parses)
 
   pub opens : (file : Name) (known : Option Known) (ts : List Token) (names : Names) (k : ℕ) (unit : UnitOf) (found : List Need) (units : List Loaded)
-      → Expands told s.known file (Ok ts) known → Parses need.is_interface k ts need.name s.names names (Ok unit)
+      → Spells told s.known file (Ok ts) known → Parses need.is_interface k ts need.name s.names names (Ok unit)
       → file ≡ file_of need.name → k ≡ file_told ts known file → found ≡ needs_of unit.part → units ≡ s.units ++ loaded ts unit ∷ []
       → Opens Parses told s need (Ok found) (held known names units)
   opens file known ts names k unit found units expands parses at number needs are = (
@@ -42,14 +41,14 @@ module _ (Parses : Parsing) (told : Told) (s : Held) (need : Need) where
   )
 
   pub fails_to_parse : (file : Name) (known : Option Known) (ts : List Token) (names : Names) (k : ℕ) (q : Result UnitOf Fault) (e : Fault)
-      → Expands told s.known file (Ok ts) known → Parses need.is_interface k ts need.name s.names names q
+      → Spells told s.known file (Ok ts) known → Parses need.is_interface k ts need.name s.names names q
       → file ≡ file_of need.name → k ≡ file_told ts known file → q ≡ Err e
       → Opens Parses told s need (Err e) (held known names s.units)
   fails_to_parse file known ts names k q e expands parses at number is =
       (known, Ok ts, expands_as file known (Ok ts) at expands, (names, Err e, parses_as file known ts names k q (Err e) at number is parses, (refl, refl)))
 
   pub fails_to_expand : (file : Name) (known : Option Known) (e : Fault)
-      → Expands told s.known file (Err e) known → file ≡ file_of need.name
+      → Spells told s.known file (Err e) known → file ≡ file_of need.name
       → Opens Parses told s need (Err e) (held known s.names s.units)
   fails_to_expand file known e expands at = (known, Err e, expands_as file known (Err e) at expands, (refl, refl))
 
@@ -57,9 +56,9 @@ module _ (Parses : Parsing) (told : Told) (s : Held) (need : Need) where
 
 module _ (Declares : Declaring) (told : Told) where
   begins_as : (old known : Option Known) (file : Name) (r : Result (List Token) Fault) → old ≡ Some nothing_known → file ≡ prelude
-      → Expands told old file r known → Expands told (Some nothing_known) prelude r known
+      → Spells told old file r known → Spells told (Some nothing_known) prelude r known
   begins_as old known file r nothing at expands =
-      subst (λ (f : Name). Expands told (Some nothing_known) f r known) at (subst (λ (k : Option Known). Expands told k file r known) nothing expands)
+      subst (λ (f : Name). Spells told (Some nothing_known) f r known) at (subst (λ (k : Option Known). Spells told k file r known) nothing expands)
 
   declares_as : (known : Option Known) (file : Name) (ts : List Token) (none names : Names) (k : ℕ) (q r : Result (List Decl) Fault) → none ≡ [] → file ≡ prelude
       → k ≡ file_told ts known file → q ≡ r → Declares k ts none names q → Declares (file_told ts known prelude) ts [] names r
@@ -68,7 +67,7 @@ module _ (Declares : Declaring) (told : Told) where
       (subst (λ (n : Names). Declares k ts n names r) empty (subst (λ (p : Result (List Decl) Fault). Declares k ts none names p) is declares))
 
   pub begins : (old known : Option Known) (file : Name) (ts : List Token) (none names : Names) (k : ℕ) (decls : List Decl) (units : List Loaded)
-      → Expands told old file (Ok ts) known → Declares k ts none names (Ok decls)
+      → Spells told old file (Ok ts) known → Declares k ts none names (Ok decls)
       → old ≡ Some nothing_known → file ≡ prelude → none ≡ [] → k ≡ file_told ts known file → units ≡ declared decls ∷ []
       → Begins Declares told (Ok (held known names units))
   begins old known file ts none names k decls units expands declares nothing at empty number are = (
@@ -79,14 +78,14 @@ module _ (Declares : Declaring) (told : Told) where
   )
 
   pub fails_to_declare : (old known : Option Known) (file : Name) (ts : List Token) (none names : Names) (k : ℕ) (q : Result (List Decl) Fault) (e : Fault)
-      → Expands told old file (Ok ts) known → Declares k ts none names q
+      → Spells told old file (Ok ts) known → Declares k ts none names q
       → old ≡ Some nothing_known → file ≡ prelude → none ≡ [] → k ≡ file_told ts known file → q ≡ Err e
       → Begins Declares told (Err (stopped e known))
   fails_to_declare old known file ts none names k q e expands declares nothing at empty number is =
       (known, Ok ts, begins_as old known file (Ok ts) nothing at expands, (names, Err e, declares_as known file ts none names k q (Err e) empty at number is declares, refl))
 
   pub fails_to_begin : (old known : Option Known) (file : Name) (e : Fault)
-      → Expands told old file (Err e) known → old ≡ Some nothing_known → file ≡ prelude → Begins Declares told (Err (stopped e known))
+      → Spells told old file (Err e) known → old ≡ Some nothing_known → file ≡ prelude → Begins Declares told (Err (stopped e known))
   fails_to_begin old known file e expands nothing at = (known, Err e, begins_as old known file (Err e) nothing at expands, refl)
 
 -- ---- an application

@@ -1,4 +1,4 @@
--- What opening a file gives: its text is expanded, then parsed as it is needed (own: a later need of the other kind finds what the
+-- What opening a file gives: its text is expanded, marked, then parsed as it is needed (own: a later need of the other kind finds what the
 -- first one asked for).
 use Rattle.std.specs.Prelude.{◌≡◌, ℕ, Bool, List, [], ◌∷◌, ◌++◌, codes, Option, Some, None, Result, Ok, Err}
 use Rattle.nm_base.specs.declared.pos.Pos.{Pos}
@@ -10,6 +10,7 @@ use Rattle.nesc_tree.specs.declared.declarations.Decl.{Decl}
 use Rattle.nesc_tree.specs.Sorts.{Names}
 use Rattle.nesc_preproc.specs.Sources.{Known, nothing_known}
 use Rattle.nesc_preproc.specs.Expands.{Expands}
+use Rattle.nesc_left_out.specs.Marks.{marked}
 use Rattle.wire_reading.specs.declared.opener.Need.{Need}
 use Rattle.wire_reading.specs.Order.{Name, Opening}
 use Rattle.wire_reading.specs.Order as order
@@ -34,6 +35,11 @@ loaded ts unit = record { unit = unit; at = name_place ts }
 abbrev pub Parsing : Type 1
 Parsing = (is_interface : Bool) → ℕ → List Token → Name → Names → Names → Result UnitOf Fault → Type 0
 
+-- the tokens of a file as the grammar reads them: `hwevent` behind `@` is no name
+abbrev pub Spells : Told → Option Known → Name → Result (List Token) Fault → Option Known → Type 0
+Spells told before file (Ok ts) known = (expanded : List Token) × Expands told before file (Ok expanded) known × (ts ≡ marked expanded)
+Spells told before file (Err e) known = Expands told before file (Err e) known
+
 -- what is answered and kept behind parsing
 abbrev pub Parsed : List Loaded → Option Known → List Token → Names → Result UnitOf Fault → Result (List Need) Fault → Held → Type 0
 Parsed units known ts names (Ok unit) found after = (found ≡ Ok (needs_of unit.part)) × (after ≡ held known names (units ++ loaded ts unit ∷ []))
@@ -50,7 +56,7 @@ Scanned Parses s need known (Err e) found after = (found ≡ Err e) × (after �
 abbrev pub Opens : Parsing → Told → Opening Held
 Opens Parses told s need found after =
     (known : Option Known) × (tokens : Result (List Token) Fault)
-    × Expands told s.known (file_of need.name) tokens known
+    × Spells told s.known (file_of need.name) tokens known
     × Scanned Parses s need known tokens found after
 
 -- ---- where reading stops
@@ -89,7 +95,7 @@ Preluded Declares known (Err e) answer = answer ≡ Err (stopped e known)
 abbrev pub Begins : Declaring → Told → Result Held Stopped → Type 0
 Begins Declares told answer =
     (known : Option Known) × (tokens : Result (List Token) Fault)
-    × Expands told (Some nothing_known) prelude tokens known × Preluded Declares known tokens answer
+    × Spells told (Some nothing_known) prelude tokens known × Preluded Declares known tokens answer
 
 -- ---- an application
 

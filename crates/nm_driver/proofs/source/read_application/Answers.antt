@@ -1,28 +1,14 @@
-use Rattle.std.proofs.Common.{ap, ◌∙◌}
-use Rattle.boot_writes.specs.Application.{known_in}
-use Rattle.nm_driver.specs.Lines.{answer_line}
-use Rattle.nm_driver.specs.NamedFiles.{status_of}
-use Rattle.nm_driver.specs.Prepared.{fault_file}
-use Rattle.nm_driver.proofs.Causes.{if_says_three}
-use Rattle.nm_driver.proofs.Writable.{good_writes}
+use Rattle.std.proofs.Common.{rules, ◌≡◌, Err, subst}
+use Rattle.wire_loading.specs.Opened.{stopped}
+use Rattle.nesc_programs.specs.Programs.{IsStopped}
+use Rattle.nm_driver.proofs.Reading.{says_of_files}
 use Rattle.nm_driver.proofs.source.read_application.Goals as goal
 
-pub returns-in-Ok-clause-wired : goal.returns-in-Ok-clause-wired
-returns-in-Ok-clause-wired g c =
-    let w = c.in-Ok.ensures.wired in
-    record { app = c.args.app.now; writes = w.writes; good = good_writes w.form.body w.writes w.form.statements w.form.few; is = w.is_wired }
-
-pub returns-in_ok-fault_file-in-Err-clause-says : goal.returns-in_ok-fault_file-in-Err-clause-says
-returns-in_ok-fault_file-in-Err-clause-says g c =
-    let e = c.in-Err.fault in
-    let known = known_in c.read_application.new.reading in
-    if_says_three c.says_fault.result
-    (λ a status line found. record {
-      cause = e;
-      known = known;
-      found = found;
-      is_status = status;
-      is_line = line ∙ ap (λ n. answer_line n (status_of e)) c.in_ok-fault_file-in-Err.ensures ∙ ap (λ n. answer_line (fault_file known n e) (status_of e)) c.in_ok-file-in-Err.ensures;
-      source = λ files h. c.in-Err.ensures.stopped files h c.new-reading.ensures;
-    })
-    c.says_fault.ensures.status c.says_fault.ensures.line c.says_fault.ensures.found
+pub returns-clause-says : goal.returns-clause-says
+returns-clause-says g c =
+    let e = c.in-Err.field-0.fault in
+    let known = c.in-Err.field-0.reading in
+    let same : c.in_ok-name.name ≡ c.args.app.now = search rules in
+    says_of_files (g.F.Files.seen c.args.files.now).texts c.args.app.now e known c.refused.result
+    (λ files is r. subst (λ n. IsStopped files n e known) same (c.read_program.ensures.refused files is (stopped e known) (search rules) r))
+    c.refused.ensures

@@ -3,8 +3,27 @@ use Rattle.msp_isa.specs.Image.{bytes_map}
 use Rattle.mote_text.specs.ImageText.{image_text}
 use Rattle.mote_run.specs.RunText.{mote_text}
 use Rattle.nm_driver.specs.RunText.{build_text, sizes_text, trace_line}
-use Rattle.nm_driver.proofs.Built.{meets_same}
+use Rattle.nm_words.specs.declared.mode.Mode.TheVariants.{Run}
+use Rattle.nm_driver.specs.declared.subject.Reported.{Reported}
+use Rattle.nm_driver.specs.declared.subject.Subject.{Subject}
+use Rattle.nm_driver.proofs.Causes.{if_says, passed}
+use Rattle.nm_driver.proofs.Reading.{of_source, passed_outside, refused_outside}
+use Rattle.nm_driver.proofs.Built.{can_same, meets_same}
 use Rattle.nm_driver.proofs.subject.runnable.Goals as goal
+
+pub returns-in_err-built-clause-outside : goal.returns-in_err-built-clause-outside
+returns-in_err-built-clause-outside g c =
+    let r = c.in_ok-reported.reported in
+    let e = c.in_err-built.field-0.0 in
+    passed_outside c.from_residual-in_err-built.result e _ _ c.from_residual-in_err-built.ensures.1
+    (refused_outside Reported Subject r Run c.args.app.now r.application e _ _ c.in_ok-reported.ensures.outside (if_says e (λ answer h. h Run tt) c.in_err-built.ensures.says))
+
+pub returns-in_err-built-clause-says : goal.returns-in_err-built-clause-says
+returns-in_err-built-clause-says g c =
+    let r = c.in_ok-reported.reported in
+    let e = c.in_err-built.field-0.0 in
+    passed _ c.from_residual-in_err-built.result e c.from_residual-in_err-built.ensures.1
+    (if_says e (λ answer h. of_source _ Run c.args.app.now r.application answer c.in_ok-reported.ensures.program (h Run tt)) c.in_err-built.ensures.says)
 
 pub returns-clause-prints : goal.returns-clause-prints
 returns-clause-prints g c = λ board rows budget.
@@ -18,6 +37,7 @@ returns-clause-prints g c = λ board rows budget.
     let trace : List ℕ = trace_line ++ mote_text (bytes_map loaded) board rows budget in (
       r.0,
       record {
+        builds = can_same r.0.program _ r.1 c.in_ok-built.ensures.builds;
         code = code;
         vectors = vectors;
         ram = built.image.ram;

@@ -12,4 +12,4 @@ pub returns-in-Err : goal.returns-in-Err
 returns-in-Err g c words are =
     let outside = c.in-Err.ensures.outside in
     ended words _ (g.F.Files.seen c.args.files.now) (g.F.Files.seen c.prepare.new.files) (g.S.Sink.seen c.args.out.now) (g.S.Sink.seen c.write_answer.new.out) outside.same
-    c.one_reading.ensures c.in-Err.stop c.write_answer.result (if_says c.in-Err.stop (λ a h. h words are) c.in-Err.ensures.says) outside.read_fault outside.missing c.write_answer.ensures
+    c.one_application.ensures c.in-Err.stop c.write_answer.result (if_says c.in-Err.stop (λ a h. h words are) c.in-Err.ensures.says) outside.read_fault outside.missing c.write_answer.ensures

@@ -1,3 +1,0 @@
-pub mod Read
-pub mod View
-pub mod OneReading

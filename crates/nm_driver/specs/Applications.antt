@@ -1,0 +1,85 @@
+-- Which applications a mode takes, and why one is refused: behind its wired program come the graph of its calls, its race report, and in modes
+-- that build its image (own: the order of the phases).
+use Rattle.std.specs.Prelude.{◌≡◌, ◌≤◌, ◌⊎◌, ℕ, List, [], length, Option, Some, None}
+use Rattle.nm_base.specs.declared.refusal.Left.TheVariants.{Later}
+use Rattle.nm_base.specs.declared.refusal.Refusal.{Refusal}
+use Rattle.nm_base.specs.declared.refusal.Refusal.TheVariants.{LeftOut}
+use Rattle.nm_base.specs.declared.fault.Fault.{Fault}
+use Rattle.nm_base.specs.declared.fault.Fault.TheVariants as fault
+use Rattle.nm_base.specs.declared.limit.Room.{Room}
+use Rattle.nesc_preproc.specs.Sources.{Known}
+use Rattle.nesc_preproc.specs.Expands.{Told}
+use Rattle.nesc_core.specs.Plain.{Program}
+use Rattle.nesc_core.specs.Calls.{HasNoCycle}
+use Rattle.call_graph.specs.Refusals.{HasNoSyncPath, IsDue}
+use Rattle.race_checker.specs.Computed.{report_of}
+use Rattle.race_report.specs.Limit.{IsWhy, most}
+use Rattle.msp_layout.specs.Laid.{HasCause}
+use Rattle.program_image.specs.Order.{lines_of, reset_place}
+use Rattle.image_code.specs.Code.{code_of, data_bytes}
+use Rattle.nesc_programs.specs.Programs.{HasProgram, IsProgram, IsStopped}
+use Rattle.nm_words.specs.declared.mode.Mode.{Mode}
+use Rattle.nm_words.specs.declared.mode.Mode.TheVariants.{Check, Build, Run, Mote}
+
+-- ---- programs
+
+-- calls without a cycle, no handler that reaches what is not `async`, and few rows of its report
+pub record IsAccepted (p : Program) : Type 0 where
+  pub no_cycle : HasNoCycle p
+  pub no_sync : HasNoSyncPath p
+  pub few : length (report_of p) ≤ most
+
+-- the image's causes of an answer: its code, or else its data and stack, are more than the mote's memory holds, or memory is wanting
+abbrev pub IsCause : Program → Fault → Type 0
+IsCause p e = HasCause (code_of p) (lines_of p) (reset_place p) (data_bytes p) e
+
+-- it has an image: no task, which no image has yet, and room for it
+pub record CanBeBuilt (p : Program) : Type 0 where
+  pub no_tasks : p.tasks ≡ []
+  pub has_room : (room : Room) (need : ℕ) → IsCause p (fault.TooLarge room need) → ⊥
+
+-- ---- modes
+
+-- a mode that reads an application
+abbrev pub IsOfSource : Mode → Type 0
+IsOfSource Mote = ⊥
+IsOfSource _ = Unit {0}
+
+-- a mode that makes an image of it
+abbrev pub Builds : Mode → Type 0
+Builds Build = Unit {0}
+Builds Run = Unit {0}
+Builds _ = ⊥
+
+abbrev pub Takes : Mode → Program → Type 0
+Takes m p = Builds m → CanBeBuilt p
+
+-- an application that a mode takes
+pub record HasApplication (told : Told) (mode : Mode) (app : List ℕ) : Type 0 where
+  pub program : Program
+  pub has : HasProgram told app program
+  pub accepted : IsAccepted program
+  pub taken : Takes mode program
+
+-- ---- refusals
+
+-- the application's file: files have numbers in the order of reading, and the prelude has 0
+abbrev pub application : ℕ
+application = 1
+
+-- tasks are not built yet, at the beginning of the application's file
+abbrev pub later : Refusal
+later = LeftOut (record { file = application; line = 1; col = 1 }) Later
+
+-- why there is no image
+abbrev pub IsUnbuilt : Program → Fault → Type 0
+IsUnbuilt p e = ((p.tasks ≡ [] → ⊥) × (e ≡ fault.Refused later)) ⊎ ((p.tasks ≡ []) × IsCause p e)
+
+-- why a mode does not take a program: its calls, its report, its image
+abbrev pub IsRefusedIn : Mode → Program → Fault → Type 0
+IsRefusedIn m p e = IsDue p e ⊎ ((HasNoCycle p × HasNoSyncPath p × IsWhy p e) ⊎ (Builds m × IsAccepted p × IsUnbuilt p e))
+
+-- why a mode does not take an application, what is known of its files then, and its program where it has one
+abbrev pub IsRefused : Told → Mode → List ℕ → Fault → Option Known → Option Program → Type 0
+IsRefused told m app e known None = IsStopped told app e known
+IsRefused told m app e known (Some p) = IsProgram told app p known × IsRefusedIn m p e

@@ -1,4 +1,0 @@
-pub mod Bodies
-pub mod Numerals
-pub mod Statements
-pub mod WordLists

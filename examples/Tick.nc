@@ -1,0 +1,4 @@
+interface Tick {
+  command void start(uint16_t period);
+  async event void tick();
+}
