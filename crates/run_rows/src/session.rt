@@ -21,6 +21,11 @@ pub struct Session {
     files: MemFiles,
 }
 
+// What is said of a call.
+fn answer_text(alloc: Global, words: &str, row: &str) -> Result<String, NoMemory> {
+    Ok(format!(in alloc; "{words}: {row}\n")?)
+}
+
 // How many schedules there are, the application, and the row of each.
 fn parts_of(repeat: &str) -> (u32, &str, &str) {
     let (count, rest) = repeat.split_once(' ').unwrap_or(("", repeat));
@@ -106,11 +111,10 @@ impl Session {
         let text = called(alloc, words, &mut self.files)?;
         let traces = vec![in alloc; MoteTrace::read(alloc, text.as_str())?]?;
         let rows = self.rows(alloc, name, &traces)?;
-        let row = match rows.first() {
-            Some(row) => row.as_str(),
-            None => text.lines().next().unwrap_or(""),
-        };
-        Ok(format!(in alloc; "{words}: {row}\n")?)
+        match rows.first() {
+            Some(row) => answer_text(alloc, words, row.as_str()),
+            None => answer_text(alloc, words, text.lines().next().unwrap_or("")),
+        }
     }
 
     // Builds an application, runs its image with each of so many schedules, and the program after each run.
