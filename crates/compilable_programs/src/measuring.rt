@@ -1,34 +1,58 @@
 //! Whether nodes and bytes measure the code of a program.
 
-ghost use Rattle.std.specs.Prelude.{◌≡◌, ◌≤◌, length, true};
+ghost use Rattle.std.specs.Prelude.{◌≡◌, ◌≤◌, length, true, if◌then◌else◌};
 ghost use Rattle.nesc_core.specs.View.{program_of, stmt_of, stmts_of};
-ghost use Rattle.nesc_core.specs.WellFormed.{count_stmts};
 ghost use Rattle.lower_pace.specs.Pace.{IsMeasured};
+ghost use Rattle.body_bytes.specs.Lean as lean;
+ghost use Rattle.body_bytes.specs.Lean.{AreLeanStmts, IsLean, IsLeanStmt, count_working};
 ghost use Rattle.well_formed.specs.Formed.{Each};
-ghost use Rattle.compilable_programs.specs.Cases.{HasFewCases, HaveFewCases};
 
 use nesc_core::{CoreStmt, Program};
 use nm_base::List;
 
-// Whether there are at most as many cases as statements.
-#[tactic(auto, using(crate::proofs::Switches::counted))]
-fn are_few(cases: &List<(Option<i64>, u32)>, list: &List<CoreStmt>) -> bool
-    ensures { result ≡ true → length cases.now ≤ count_stmts (stmts_of list.now) }
-{
-    cases.as_slice().len() <= list.as_slice().len()
-}
-
-// Whether no switch in a statement has more cases than statements, and no call is inlined there.
-#[cycle(cases)]
-fn has_few_cases(s: &CoreStmt) -> bool
-    ensures { result ≡ true → HasFewCases (stmt_of s.now) }
+// Whether a statement does anything but clear a local.
+fn works(s: &CoreStmt) -> bool
+    ensures { lean.works (stmt_of s.now) ≡ if result then 1 else 0 }
 {
     match s {
-        CoreStmt::Block(list) => have_few_cases(list),
-        CoreStmt::If(_, a, b) => has_few_cases(a) && has_few_cases(b),
-        CoreStmt::Loop { body, .. } => has_few_cases(body),
-        CoreStmt::Switch(_, cases, list) => are_few(cases, list) && have_few_cases(list),
-        CoreStmt::Atomic(body) => has_few_cases(body),
+        CoreStmt::Clear(_) => false,
+        CoreStmt::Block(_)
+        | CoreStmt::If(_, _, _)
+        | CoreStmt::Loop { .. }
+        | CoreStmt::Switch(_, _, _)
+        | CoreStmt::Atomic(_)
+        | CoreStmt::Eval(_)
+        | CoreStmt::Break
+        | CoreStmt::Continue
+        | CoreStmt::Return(_)
+        | CoreStmt::Here { .. } => true,
+    }
+}
+
+// Whether there are at most as many cases as statements that do anything but clear a local.
+fn are_few(cases: &List<(Option<i64>, u32)>, list: &List<CoreStmt>) -> bool
+    ensures { result ≡ true → length cases.now ≤ count_working (stmts_of list.now) }
+{
+    let mut left = cases.as_slice().len();
+    for s in list.as_slice() {
+        if works(s) {
+            left = left.saturating_sub(1);
+        }
+    }
+    left == 0
+}
+
+// Whether no switch in a statement has too many cases, and no call is inlined there.
+#[cycle(cases)]
+fn is_lean_stmt(s: &CoreStmt) -> bool
+    ensures { result ≡ true → IsLeanStmt (stmt_of s.now) }
+{
+    match s {
+        CoreStmt::Block(list) => are_lean_stmts(list),
+        CoreStmt::If(_, a, b) => is_lean_stmt(a) && is_lean_stmt(b),
+        CoreStmt::Loop { body, .. } => is_lean_stmt(body),
+        CoreStmt::Switch(_, cases, list) => are_few(cases, list) && are_lean_stmts(list),
+        CoreStmt::Atomic(body) => is_lean_stmt(body),
         CoreStmt::Eval(_)
         | CoreStmt::Break
         | CoreStmt::Continue
@@ -39,32 +63,33 @@ fn has_few_cases(s: &CoreStmt) -> bool
 }
 
 #[cycle(cases)]
-fn have_few_cases(list: &List<CoreStmt>) -> bool
-    ensures { result ≡ true → HaveFewCases (stmts_of list.now) }
+fn are_lean_stmts(list: &List<CoreStmt>) -> bool
+    ensures { result ≡ true → AreLeanStmts (stmts_of list.now) }
 {
     for s in list.as_slice() {
-        if !has_few_cases(s) {
+        if !is_lean_stmt(s) {
             return false;
         }
     }
     true
 }
 
-fn bodies_have_few_cases(p: &Program) -> bool
-    ensures { result ≡ true → Each (λ b. HasFewCases b.code) (program_of p.now).bodies }
+fn are_lean_bodies(p: &Program) -> bool
+    ensures { result ≡ true → Each (λ b. IsLeanStmt b.code) (program_of p.now).bodies }
 {
     for body in p.bodies.as_slice() {
-        if !has_few_cases(&body.code) {
+        if !is_lean_stmt(&body.code) {
             return false;
         }
     }
     true
 }
 
-/// Whether no switch of a program has more cases than statements, and no call is inlined. Statements are walked as deep as they stand in
-/// one another.
-pub(crate) fn is_measured(p: &Program) -> bool
-    ensures { result ≡ true → IsMeasured (program_of p.now) }
+/// Whether no switch of a program has more cases than statements that do anything but clear a local, and no call is inlined. Statements
+/// are walked as deep as they stand in one another.
+pub(crate) fn is_lean(p: &Program) -> bool
+    ensures lean { result ≡ true → IsLean (program_of p.now) }
+    ensures measured { result ≡ true → IsMeasured (program_of p.now) }
 {
-    bodies_have_few_cases(p)
+    are_lean_bodies(p)
 }

@@ -1,13 +1,14 @@
 //! From a program to its image.
 
-ghost use Rattle.std.specs.Prelude.{◌≡◌, ◌*◌, IfOk, IfErr, length};
+ghost use Rattle.std.specs.Prelude.{◌≡◌, ◌*◌, Err, IfOk, IfErr, length};
 ghost use Rattle.nesc_core.specs.View.{program_of};
 ghost use Rattle.msp_isa.specs.Image.{IsImage};
 ghost use Rattle.msp_layout.specs.Bytes.{HasBytes};
 ghost use Rattle.msp_layout.specs.Laid.{FitsRam, HasCause};
 ghost use Rattle.program_image.specs.Order.{lines_of, reset_place};
 ghost use Rattle.image_code.specs.Code.{code_of, data_bytes};
-ghost use Rattle.image_code.specs.Laws.{IsCompilable, RunsProgram};
+ghost use Rattle.image_code.specs.Laws.{CanBeChecked, IsCompilable, RunsProgram};
+ghost use Rattle.lower_stmt.specs.Bodies.{lowered};
 
 use crate::code::code_of;
 use crate::data::data_bytes;
@@ -32,6 +33,7 @@ pub fn build(alloc: Global, p: &Program) -> Result<Image, Fault>
     ensures bytes { IfOk result (λ i. HasBytes (code_of (program_of p.now)) (2 * length i.code.items)) }
     ensures data { IfOk result (λ i. i.ram ≡ data_bytes (program_of p.now)) }
     ensures stack { IfOk result (λ i. FitsRam (code_of (program_of p.now)) (lines_of (program_of p.now)) (reset_place (program_of p.now)) i.ram i.stack) }
+    ensures checked { (result ≡ Err Fault.NoMemory → ⊥) → CanBeChecked (lowered (program_of p.now)).checks }
     ensures cause { IfErr result (λ e. HasCause (code_of (program_of p.now)) (lines_of (program_of p.now)) (reset_place (program_of p.now)) (data_bytes (program_of p.now)) e) }
 {
     code_can_be_laid();

@@ -7,6 +7,8 @@ use Rattle.std.specs.Prelude.{IfErr}
 use Rattle.nm_base.specs.declared.fault.Fault.{Fault}
 use Rattle.nm_base.specs.declared.fault.Fault.TheVariants as fault
 use Rattle.nm_base.specs.declared.limit.Limit.{Limit as LimitOf}
+use Rattle.nm_base.specs.declared.limit.Room.{Room}
+use Rattle.nm_base.specs.declared.limit.Room.TheVariants.{Code, Ram}
 use Rattle.nm_base.specs.declared.refusal.Refusal.{Refusal}
 use Rattle.nm_base.specs.declared.refusal.Refusal.TheVariants as refusal
 use Rattle.nesc_preproc.specs.Sources.{Known}
@@ -32,7 +34,7 @@ use Rattle.nm_words.specs.declared.mode.Mode.TheVariants.{Check, Build, Run, Mot
 use Rattle.nm_driver.specs.declared.status.Status.{Status}
 use Rattle.nm_driver.specs.declared.status.Status.TheVariants.{Done, Refused, Usage, Missing, ReadFault, WriteFault, BadSchedule, Limit, TooLarge, NoMemory, BadImage}
 use Rattle.nm_driver.specs.Lines.{answer_line, plain_line}
-use Rattle.nm_driver.specs.Applications.{CanBeBuilt, HasApplication, IsAccepted, IsCause, IsOfSource, IsRefused, IsRefusedIn, IsUnbuilt}
+use Rattle.nm_driver.specs.Applications.{CanBeBuilt, HasApplication, HasSmallWeights, IsAccepted, IsCause, IsOfSource, IsRefused, IsRefusedIn, IsUnbuilt, IsWithinWeights}
 use Rattle.nm_driver.specs.NamedFiles.{FileStops, HasImage, HasRows, HasSchedule, HasSubject, ImageStops, IsRead, IsTooLarge, RowsStop, ScheduleStops, SourceStops, SubjectStops, status_of}
 use Rattle.nm_driver.specs.Output.{HasCause, HasText, IsDone, IsDue, IsReady, Prints, Stops}
 use Rattle.nm_driver.specs.Prepared.{IfSays, IsLined, IsNoMemory, SaysOf, SaysOfSource, SaysOfSubject, fault_detail, fault_file, line_of}
@@ -124,9 +126,9 @@ pub has_subject : (told : Option Told) (files : Told) → told ≡ Some files �
 has_subject told files h Check name board rows n text prints =
     let a = prints.0 in record { program = a.program; has = a.has files h; accepted = a.accepted; taken = λ builds. absurd builds }
 has_subject told files h Build name board rows n text prints =
-    let a = prints.0 in record { program = a.program; has = a.has files h; accepted = a.accepted; taken = λ builds. prints.1.builds }
+    let a = prints.0 in record { program = a.program; has = a.has files h; accepted = a.accepted; taken = λ builds. inl prints.1.builds }
 has_subject told files h Run name board rows n text prints =
-    let a = prints.0 in record { program = a.program; has = a.has files h; accepted = a.accepted; taken = λ builds. prints.1.builds }
+    let a = prints.0 in record { program = a.program; has = a.has files h; accepted = a.accepted; taken = λ builds. inl prints.1.builds }
 has_subject told files h Mote name board rows n text prints = (prints.0, prints.2 files h)
 
 -- ---- where all is good
@@ -240,18 +242,32 @@ not_by_rows p few (fault.Limit l) answers h = let many = h.1 in omega (arith, fe
 not_by_rows p few (fault.TooLarge room n) answers h = h
 not_by_rows p few fault.NoMemory answers h = answers
 
-module _ (p : Program) (can : CanBeBuilt p) where
-  has_no_cause : (e : Fault) → IsAnswer e → IsCause p e → ⊥
-  has_no_cause (fault.Refused r) answers h = h
-  has_no_cause (fault.Missing name) answers h = h
-  has_no_cause fault.ReadFault answers h = h
-  has_no_cause (fault.Limit l) answers h = h
-  has_no_cause (fault.TooLarge room need) answers h = can.has_room room need h
-  has_no_cause fault.NoMemory answers h = answers
+-- weights that fit pass no room
+small_weights : (p : Program) (small : HasSmallWeights p) (room : Room) (need : ℕ) → IsCause p (fault.TooLarge room need) → IsWithinWeights p (fault.TooLarge room need) → ⊥
+small_weights p small Code need cause within =
+    let above = cause.above in let tells = cause.tells in let fits = small.code in omega (arith, above, tells, fits, within)
+small_weights p small Ram need cause within = let pass = (within small.stack small.is_stack).pass in let fits = small.memory in omega (arith, pass, fits)
+
+module _ (p : Program) (can : CanBeBuilt p ⊎ HasSmallWeights p) where
+  no_tasks : CanBeBuilt p ⊎ HasSmallWeights p → p.tasks ≡ []
+  no_tasks (inl built) = built.no_tasks
+  no_tasks (inr small) = small.no_tasks
+
+  has_room : CanBeBuilt p ⊎ HasSmallWeights p → (room : Room) (need : ℕ) → IsCause p (fault.TooLarge room need) → IsWithinWeights p (fault.TooLarge room need) → ⊥
+  has_room (inl built) room need cause within = built.has_room room need cause
+  has_room (inr small) room need cause within = small_weights p small room need cause within
+
+  has_no_cause : (e : Fault) → IsAnswer e → IsCause p e → IsWithinWeights p e → ⊥
+  has_no_cause (fault.Refused r) answers h w = h
+  has_no_cause (fault.Missing name) answers h w = h
+  has_no_cause fault.ReadFault answers h w = h
+  has_no_cause (fault.Limit l) answers h w = h
+  has_no_cause (fault.TooLarge room need) answers h w = has_room can room need h w
+  has_no_cause fault.NoMemory answers h w = answers
 
   not_unbuilt : (e : Fault) → IsAnswer e → IsUnbuilt p e → ⊥
-  not_unbuilt e answers (inl (tasks, is)) = tasks can.no_tasks
-  not_unbuilt e answers (inr (none, cause)) = has_no_cause e answers cause
+  not_unbuilt e answers (inl (tasks, is)) = tasks (no_tasks can)
+  not_unbuilt e answers (inr h) = has_no_cause e answers h.1 h.2
 
 module _ (one : OneApplication) (told : Told) (mode : Mode) (app : List ℕ) (has : HasApplication told mode app) where
   not_refused_in : (e : Fault) → IsAnswer e → IsRefusedIn mode has.program e → ⊥

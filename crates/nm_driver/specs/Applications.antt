@@ -1,22 +1,27 @@
 -- Which applications a mode takes, and why one is refused: behind its wired program come the graph of its calls, its race report, and in modes
 -- that build its image (own: the order of the phases).
-use Rattle.std.specs.Prelude.{◌≡◌, ◌≤◌, ◌⊎◌, ℕ, List, [], length, Option, Some, None}
+use Rattle.std.specs.Prelude.{◌≡◌, ◌+◌, ◌≤◌, ◌⊎◌, ℕ, List, [], length, Option, Some, None}
 use Rattle.nm_base.specs.declared.refusal.Left.TheVariants.{Later}
 use Rattle.nm_base.specs.declared.refusal.Refusal.{Refusal}
 use Rattle.nm_base.specs.declared.refusal.Refusal.TheVariants.{LeftOut}
 use Rattle.nm_base.specs.declared.fault.Fault.{Fault}
 use Rattle.nm_base.specs.declared.fault.Fault.TheVariants as fault
 use Rattle.nm_base.specs.declared.limit.Room.{Room}
+use Rattle.nm_base.specs.declared.limit.Room.TheVariants.{Code, Ram}
+use Rattle.nm_base.specs.declared.memory_map.TheConstants.{CODE_BYTES, RAM_BYTES}
 use Rattle.nesc_preproc.specs.Sources.{Known}
 use Rattle.nesc_preproc.specs.Expands.{Told}
 use Rattle.nesc_core.specs.Plain.{Program}
 use Rattle.nesc_core.specs.Calls.{HasNoCycle}
+use Rattle.nesc_core.specs.Weights.{code_weight, data_weight}
 use Rattle.call_graph.specs.Refusals.{HasNoSyncPath, IsDue}
 use Rattle.race_checker.specs.Computed.{report_of}
 use Rattle.race_report.specs.Limit.{IsWhy, most}
 use Rattle.msp_layout.specs.Laid.{HasCause}
 use Rattle.program_image.specs.Order.{lines_of, reset_place}
 use Rattle.image_code.specs.Code.{code_of, data_bytes}
+use Rattle.image_sizes.specs.Laws.{IsNeedOfWeights}
+use Rattle.image_sizes.specs.StackWeight.{IsStackWeight}
 use Rattle.nesc_programs.specs.Programs.{HasProgram, IsProgram, IsStopped}
 use Rattle.nm_words.specs.declared.mode.Mode.{Mode}
 use Rattle.nm_words.specs.declared.mode.Mode.TheVariants.{Check, Build, Run, Mote}
@@ -38,6 +43,20 @@ pub record CanBeBuilt (p : Program) : Type 0 where
   pub no_tasks : p.tasks ≡ []
   pub has_room : (room : Room) (need : ℕ) → IsCause p (fault.TooLarge room need) → ⊥
 
+-- no task, and weights of code, data and stack that fit the mote
+pub record HasSmallWeights (p : Program) : Type 0 where
+  pub no_tasks : p.tasks ≡ []
+  pub code : code_weight p ≤ CODE_BYTES
+  pub stack : ℕ
+  pub is_stack : IsStackWeight p stack
+  pub memory : data_weight p + stack ≤ RAM_BYTES
+
+-- what is needed and is not there is at most what the weights say
+abbrev pub IsWithinWeights : Program → Fault → Type 0
+IsWithinWeights p (fault.TooLarge Code need) = need ≤ code_weight p
+IsWithinWeights p (fault.TooLarge Ram need) = (weight : ℕ) → IsStackWeight p weight → IsNeedOfWeights p weight need
+IsWithinWeights p _ = Unit {0}
+
 -- ---- modes
 
 -- a mode that reads an application
@@ -51,8 +70,9 @@ Builds Build = Unit {0}
 Builds Run = Unit {0}
 Builds _ = ⊥
 
+-- where there is room for an image, or the weights fit
 abbrev pub Takes : Mode → Program → Type 0
-Takes m p = Builds m → CanBeBuilt p
+Takes m p = Builds m → CanBeBuilt p ⊎ HasSmallWeights p
 
 -- an application that a mode takes
 pub record HasApplication (told : Told) (mode : Mode) (app : List ℕ) : Type 0 where
@@ -73,7 +93,7 @@ later = LeftOut (record { file = application; line = 1; col = 1 }) Later
 
 -- why there is no image
 abbrev pub IsUnbuilt : Program → Fault → Type 0
-IsUnbuilt p e = ((p.tasks ≡ [] → ⊥) × (e ≡ fault.Refused later)) ⊎ ((p.tasks ≡ []) × IsCause p e)
+IsUnbuilt p e = ((p.tasks ≡ [] → ⊥) × (e ≡ fault.Refused later)) ⊎ ((p.tasks ≡ []) × IsCause p e × IsWithinWeights p e)
 
 -- why a mode does not take a program: its calls, its report, its image
 abbrev pub IsRefusedIn : Mode → Program → Fault → Type 0

@@ -13,6 +13,7 @@ use crate::answer::Stop;
 use crate::faults::refused;
 use compilable_programs::{is_compilable, laid_images_have_room};
 use image_builder::build;
+use image_sizes::{code_is_within_weight, memory_is_within_weights, stack_is_within_weight};
 use msp_isa::Image;
 use nesc_core::Program;
 use nesc_programs::Application;
@@ -52,6 +53,9 @@ fn image_of(alloc: Global, p: &Program) -> Result<Image, Fault>
     ensures unbuilt { IfErr result (λ e. IsUnbuilt (program_of p.now) e) }
 {
     laid_images_have_room();
+    code_is_within_weight();
+    stack_is_within_weight();
+    memory_is_within_weights();
     if has_tasks(p) {
         return Err(later());
     }

@@ -43,3 +43,6 @@ returns-clause-cause c =
     fault_is_due (program_of c.args.p.now) c.requires c.in_ok-code.ensures.checks c.deref-3.result.now c.lines_from.result c.reset_place-reset.result c.in_ok-ram.ram (c.deref-3.ensures.value ∙ c.in_ok-code.ensures.code) c.lines_from.ensures
     (c.reset_place-reset.ensures ∙ ap length (c.deref-2.ensures.value ∙ sym c.deref-3.ensures.value)) c.in_ok-ram.ensures
     c.layout.result c.layout.ensures.cause
+
+pub returns-clause-checked : goal.returns-clause-checked
+returns-clause-checked c = λ some. c.in_ok-code.ensures.checks
