@@ -1,2 +1,2 @@
 mod Forms
-mod Lists
+pub mod Lists

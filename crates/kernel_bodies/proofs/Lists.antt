@@ -27,7 +27,7 @@ pub lent : {A : Type 0} (now rest : List A) (n : ℕ) → n ≡ length now → t
 lent now rest n is = take-append-le n now rest (omega (arith, is)) ∙ take_all n now (omega (arith, is))
 
 -- all elements are changed
-all_of : {A B : Type 0} (f g : A → B) (now first : List A) (i : ℕ) → length now ≤ i → length now ≡ length first
+pub all_of : {A B : Type 0} (f g : A → B) (now first : List A) (i : ℕ) → length now ≤ i → length now ≡ length first
     → map f (take i now) ≡ map g (take i first) → map f now ≡ map g first
 all_of f g now first i le long same = ap (map f) (sym (take_all i now le)) ∙ same ∙ ap (map g) (take_all i first (omega (arith, le, long)))
 

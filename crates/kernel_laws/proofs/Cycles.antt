@@ -7,7 +7,7 @@ use Rattle.std.proofs.lemmas.Bool.Decides.{nat_tests}
 use Rattle.nesc_core.specs.Plain.{Expr, const, null, read, addr, un, bin, convert, offset, distance, both, either, choice, assign, update, call, post, port_in, port_out, comma, Exprs, no_exprs, more_exprs, Place, object, local, deref, index, field, Stmt, eval, block, branch, loop, switch, break, continue, return, atomic, clear, here, Stmts, no_stmts, more_stmts, Body, Program}
 use Rattle.nesc_core.specs.Calls.{expr_calls, exprs_calls, place_calls, maybe_calls, stmt_calls, stmts_calls, HasNoCycle}
 use Rattle.task_queue.specs.Posting.{posting_expr, posting_exprs, posting_place, posting_maybe, posting_stmt, posting_stmts}
-use Rattle.task_queue.specs.Kernel.{Numbers, numbers, kernel_body, boot_body, posting_body, kernel_program, clearing, begun, booting}
+use Rattle.task_queue.specs.Kernel.{kernel_program}
 use Rattle.task_queue.proofs.Bodies.{InKernel, kept, queues, pops, in_kernel, bodies_length}
 
 module _ (queue : ℕ) (P : ℕ → Type 0) (posts : P queue) where
@@ -91,42 +91,6 @@ module _ (queue : ℕ) (P : ℕ → Type 0) (posts : P queue) where
     stmts_each no_stmts h = h
     stmts_each (more_stmts s rest) h = two (stmt_calls s) (stmts_calls rest) _ _ (stmt_each s) (stmts_each rest) h
 
-  -- a first statement that calls nothing
-  begun_each : (first s : Stmt) → Each (stmt_calls first) → Each (stmt_calls s) → Each (stmt_calls (begun first s))
-  begun_each first (atomic s) f h = joins (stmt_calls first) _ f (joins (stmt_calls s) [] h tt)
-  begun_each first (eval e) f h = h
-  begun_each first (block list) f h = h
-  begun_each first (branch e a b) f h = h
-  begun_each first (loop now test step body) f h = h
-  begun_each first (switch e cases list) f h = h
-  begun_each first break f h = h
-  begun_each first continue f h = h
-  begun_each first (return e) f h = h
-  begun_each first (clear k) f h = h
-  begun_each first (here arguments at count body) f h = h
-
-  booting_each : (first s : Stmt) → Each (stmt_calls first) → Each (stmt_calls s) → Each (stmt_calls (booting first s))
-  booting_each first (block (more_stmts s rest)) f h =
-      joins (stmt_calls (begun first s)) (stmts_calls rest) (begun_each first s f (front (stmt_calls s) (stmts_calls rest) h)) (back (stmt_calls s) (stmts_calls rest) h)
-  booting_each first (block no_stmts) f h = h
-  booting_each first (atomic s) f h = begun_each first (atomic s) f h
-  booting_each first (eval e) f h = h
-  booting_each first (branch e a b) f h = h
-  booting_each first (loop now test step body) f h = h
-  booting_each first (switch e cases list) f h = h
-  booting_each first break f h = h
-  booting_each first continue f h = h
-  booting_each first (return e) f h = h
-  booting_each first (clear k) f h = h
-  booting_each first (here arguments at count body) f h = h
-
-pub kernel_each : (n : Numbers) (P : ℕ → Type 0) → P n.queue → (k : ℕ) (b : Body) → AllByRecursion P (stmt_calls b.code) → AllByRecursion P (stmt_calls (kernel_body n k b).code)
-kernel_each n P posts k b h = by_test (k == n.boot)
-  where
-    by_test : (t : Bool) → AllByRecursion P (stmt_calls (if t then boot_body n b else posting_body n b).code)
-    by_test true = booting_each n.queue P posts (clearing n.bytes n.count (length b.locals)) (posting_stmt n.queue b.code) tt (stmt_each n.queue P posts b.code h)
-    by_test false = stmt_each n.queue P posts b.code h
-
 -- the new bodies are lowest
 module _ (p : Program) (h : HasNoCycle p) where
   abbrev above : Bool → Bool → ℕ → ℕ
@@ -188,7 +152,7 @@ module _ (p : Program) (h : HasNoCycle p) where
               let first : rank (length p.bodies) < rank f = omega (arith, here, queue_rank) in
               subst (λ (d : Body). All (λ g. rank g < rank f) (stmt_calls d.code)) (sym same)
               (All-from_recursion _ _
-              (kernel_each (numbers p) (λ g. rank g < rank f) first f c
+              (stmt_each (length p.bodies) (λ g. rank g < rank f) first c.code
               (recursion_from_All _ _ (All-weaker _ _ lower _ (h.falls f c old)))))
           falls_found (queues at same) = subst (λ (d : Body). All (λ g. rank g < rank f) (stmt_calls d.code)) (sym same) (All-nil _)
           falls_found (pops at same) = subst (λ (d : Body). All (λ g. rank g < rank f) (stmt_calls d.code)) (sym same) (All-nil _)

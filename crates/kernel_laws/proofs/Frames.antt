@@ -1,15 +1,11 @@
 -- Frames of the kernel's program.
-use Rattle.std.proofs.Common.{◌≡◌, ◌≢◌, ℕ, ◌+◌, ◌-◌, ◌*◌, ◌≤◌, Bool, true, false, List, [], ◌∷◌, ◌++◌, length, max, sum_by, Option, Some, None, refl, sym, subst, ap, ◌∙◌, arith}
-use Rattle.std.specs.Prelude.{◌==◌, if◌then◌else◌, slice_get}
-use Rattle.std.proofs.lemmas.List.Sums.{sum_by-cons}
+use Rattle.std.proofs.Common.{◌≡◌, ℕ, ◌+◌, ◌≤◌, length, max, Option, Some, None, refl, sym, subst, ◌∙◌, arith}
+use Rattle.std.specs.Prelude.{slice_get}
 use Rattle.std.proofs.lemmas.Option.{same_Some}
-use Rattle.nm_base.specs.declared.int_type.IntType.TheVariants.{U16}
-use Rattle.std.proofs.lemmas.Bool.Decides.{nat_tests}
-use Rattle.nesc_core.specs.Plain.{Ty, int, Expr, const, null, read, addr, un, bin, convert, offset, distance, both, either, choice, assign, update, call, post, port_in, port_out, comma, Exprs, no_exprs, more_exprs, Place, object, local, deref, index, field, Stmt, eval, block, branch, loop, switch, break, continue, return, atomic, clear, here, Stmts, no_stmts, more_stmts, Body, Program}
-use Rattle.nesc_core.specs.Size.{layout_of}
-use Rattle.nesc_core.specs.Weights.{even, expr_levels, exprs_levels, place_levels, maybe_levels, greatest_levels, stmt_levels, stmts_levels, stmt_atomics, stmts_atomics, frame_weight}
+use Rattle.nesc_core.specs.Plain.{Expr, const, null, read, addr, un, bin, convert, offset, distance, both, either, choice, assign, update, call, post, port_in, port_out, comma, Exprs, no_exprs, more_exprs, Place, object, local, deref, index, field, Stmt, eval, block, branch, loop, switch, break, continue, return, atomic, clear, here, Stmts, no_stmts, more_stmts, Body, Program}
+use Rattle.nesc_core.specs.Weights.{expr_levels, exprs_levels, place_levels, maybe_levels, greatest_levels, stmt_levels, stmts_levels, stmt_atomics, stmts_atomics, frame_weight}
 use Rattle.task_queue.specs.Posting.{posting_expr, posting_exprs, posting_place, posting_maybe, posting_stmt, posting_stmts}
-use Rattle.task_queue.specs.Kernel.{numbers, boot_body, kernel_program, clearing, begun, booting}
+use Rattle.task_queue.specs.Kernel.{posting_body, kernel_program}
 use Rattle.kernel_laws.specs.Laws.{FramesGrow}
 use Rattle.task_queue.proofs.Bodies.{old_body, queue_is, pop_is}
 
@@ -98,81 +94,18 @@ module _ (queue : ℕ) where
     stmts_nest no_stmts = refl
     stmts_nest (more_stmts s rest) = omega (arith, stmt_nests s, stmts_nest rest)
 
--- ---- the boot function
+-- ---- bodies
 
--- a first statement without atomic ones
-record Fewer (first s t : Stmt) : Type 0 where
-  levels : stmt_levels t ≤ max (stmt_levels first) (stmt_levels s)
-  atomics : stmt_atomics t ≡ stmt_atomics s
-
-module _ (first : Stmt) (none : stmt_atomics first ≡ 0) where
-  same : (s : Stmt) → Fewer first s s
-  same s = record { levels = omega arith; atomics = refl }
-
-  begun_grows : (s : Stmt) → Fewer first s (begun first s)
-  begun_grows (atomic s) = record { levels = omega arith; atomics = omega (arith, none) }
-  begun_grows (eval e) = same (eval e)
-  begun_grows (block list) = same (block list)
-  begun_grows (branch e a b) = same (branch e a b)
-  begun_grows (loop now test step body) = same (loop now test step body)
-  begun_grows (switch e cases list) = same (switch e cases list)
-  begun_grows break = same break
-  begun_grows continue = same continue
-  begun_grows (return e) = same (return e)
-  begun_grows (clear k) = same (clear k)
-  begun_grows (here arguments at count body) = same (here arguments at count body)
-
-  booting_grows : (s : Stmt) → Fewer first s (booting first s)
-  booting_grows (block (more_stmts s rest)) =
-      let b = begun_grows s in let l = b.levels in let a = b.atomics in
-      record { levels = omega (arith, l); atomics = omega (arith, a) }
-  booting_grows (block no_stmts) = same (block no_stmts)
-  booting_grows (atomic s) = begun_grows (atomic s)
-  booting_grows (eval e) = same (eval e)
-  booting_grows (branch e a b) = same (branch e a b)
-  booting_grows (loop now test step body) = same (loop now test step body)
-  booting_grows (switch e cases list) = same (switch e cases list)
-  booting_grows break = same break
-  booting_grows continue = same continue
-  booting_grows (return e) = same (return e)
-  booting_grows (clear k) = same (clear k)
-  booting_grows (here arguments at count body) = same (here arguments at count body)
-
-sum_last : {A : Type 0} (f : A → ℕ) (xs : List A) (x : A) → sum_by f (xs ++ x ∷ []) ≡ sum_by f xs + f x
-sum_last f [] x = let e : f x + 0 ≡ 0 + f x = omega arith in sum_by-cons f x [] ∙ e
-sum_last f (y ∷ xs) x = let a = sum_by-cons f y (xs ++ x ∷ []) in let b = sum_by-cons f y xs in let c = sum_last f xs x in omega (arith, a, b, c)
+pub body_is : (p : Program) (f : ℕ) (b c : Body) → slice_get p.bodies f ≡ Some b → slice_get (kernel_program p).bodies f ≡ Some c → c ≡ posting_body (length p.bodies) b
+body_is p f b c old new = same_Some _ _ (sym new ∙ old_body p f b old)
 
 module _ (p : Program) where
-  boot_weight : (b : Body) → frame_weight (kernel_program p) (boot_body (numbers p) b) ≤ frame_weight p b + 2 + 4 * (max 5 (stmt_levels b.code + 1) - stmt_levels b.code)
-  boot_weight b =
-      let code = posting_stmt (length p.bodies) b.code in
-      let grown = booting_grows (clearing (length p.objects) (length p.tasks + 2) (length b.locals)) refl code in
-      let levels = grown.levels in let atomics = grown.atomics in
-      let locals = sum_last (λ (t : Ty). even (layout_of p.structs t).size) b.locals (int U16) in
-      omega (arith, levels, atomics, locals, stmt_grows (length p.bodies) b.code, stmt_nests (length p.bodies) b.code)
-
-  other_weight : (b : Body) → frame_weight (kernel_program p) (record b { code = posting_stmt (length p.bodies) b.code }) ≤ frame_weight p b + 4
-  other_weight b = omega (arith, stmt_grows (length p.bodies) b.code, stmt_nests (length p.bodies) b.code)
-
-  pub boot_is : (b c : Body) → slice_get p.bodies p.boot ≡ Some b → slice_get (kernel_program p).bodies p.boot ≡ Some c → c ≡ boot_body (numbers p) b
-  boot_is b c old new = by_test (p.boot == p.boot) refl
-    where
-      by_test : (t : Bool) → (p.boot == p.boot) ≡ t → c ≡ boot_body (numbers p) b
-      by_test true is = same_Some _ _ (sym new ∙ old_body p p.boot b old) ∙ ap (λ t. if t then boot_body (numbers p) b else record b { code = posting_stmt (length p.bodies) b.code }) is
-      by_test false is = absurd (grind (arith, nat_tests))
-
-  pub other_is : (f : ℕ) (b c : Body) → f ≢ p.boot → slice_get p.bodies f ≡ Some b → slice_get (kernel_program p).bodies f ≡ Some c → c ≡ record b { code = posting_stmt (length p.bodies) b.code }
-  other_is f b c differs old new = by_test (f == p.boot) refl
-    where
-      by_test : (t : Bool) → (f == p.boot) ≡ t → c ≡ record b { code = posting_stmt (length p.bodies) b.code }
-      by_test false is = same_Some _ _ (sym new ∙ old_body p f b old) ∙ ap (λ t. if t then boot_body (numbers p) b else record b { code = posting_stmt (length p.bodies) b.code }) is
-      by_test true is = absurd (differs (grind (arith, nat_tests)))
+  body_weight : (b : Body) → frame_weight (kernel_program p) (posting_body (length p.bodies) b) ≤ frame_weight p b + 4
+  body_weight b = omega (arith, stmt_grows (length p.bodies) b.code, stmt_nests (length p.bodies) b.code)
 
   pub frames_grow : FramesGrow p
   frames_grow = record {
-    boot = λ b c old new one. subst (λ (d : Body). frame_weight (kernel_program p) d ≤ frame_weight p b + 20) (sym (boot_is b c old new)) (omega (arith, boot_weight b, one));
-    boot_without_expressions = λ b c old new. subst (λ (d : Body). frame_weight (kernel_program p) d ≤ frame_weight p b + 22) (sym (boot_is b c old new)) (omega (arith, boot_weight b));
-    others = λ f b c differs old new. subst (λ (d : Body). frame_weight (kernel_program p) d ≤ frame_weight p b + 4) (sym (other_is f b c differs old new)) (other_weight b);
+    bodies = λ f b c old new. subst (λ (d : Body). frame_weight (kernel_program p) d ≤ frame_weight p b + 4) (sym (body_is p f b c old new)) (body_weight b);
     queue = λ c is. subst (λ (d : Body). frame_weight (kernel_program p) d ≤ 100) (same_Some _ _ (sym (queue_is p) ∙ is)) (omega arith);
     pop = λ c is. subst (λ (d : Body). frame_weight (kernel_program p) d ≤ 100) (same_Some _ _ (sym (pop_is p) ∙ is)) (omega arith);
   }

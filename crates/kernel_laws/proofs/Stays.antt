@@ -1,5 +1,5 @@
 -- Without tasks nothing is posted, so bodies stay as they are.
-use Rattle.std.proofs.Common.{◌≡◌, ℕ, zero, suc, ◌+◌, List, [], ◌∷◌, ◌++◌, length, Option, Some, None, refl, subst, ap, ◌∙◌, arith}
+use Rattle.std.proofs.Common.{◌≡◌, ℕ, zero, suc, List, [], ◌∷◌, length, Option, Some, None, refl, subst, ap, ◌∙◌, arith}
 use Rattle.std.specs.Prelude.{slice_get}
 use Rattle.std.specs.List.{All}
 use Rattle.std.proofs.lemmas.List.Elements.{All-head, All-tail}
@@ -7,14 +7,12 @@ use Rattle.std.proofs.lemmas.Option.{none-some, same_Some}
 use Rattle.nesc_core.specs.declared.tree.BinOp.{BinOp}
 use Rattle.nesc_core.specs.declared.tree.BinOp.TheVariants as op_
 use Rattle.nm_base.specs.declared.int_type.IntType.{IntType}
-use Rattle.nm_base.specs.declared.int_type.IntType.TheVariants.{U16}
 use Rattle.nesc_core.specs.Plain.{Ty, int, pointer, Expr, Exprs, Place, Stmt, Stmts, Body, Program, no_exprs, more_exprs, no_stmts, more_stmts}
 use Rattle.nesc_core.specs.Plain as plain
 use Rattle.nesc_core.specs.Typing.{AllHave, Has, IsCallable, IsPlace, IsSecond, IsSome}
-use Rattle.nesc_core.specs.WellFormed.{AreStmts, Exits, IsBody, IsDone, IsGiven, IsStmt, IsWellFormed, by_result, by_return, in_loop, in_switch}
-use Rattle.task_queue.specs.Kernel.{booting, clearing}
-use Rattle.kernel_laws.specs.Laws.{BodiesStay}
-use Rattle.kernel_laws.proofs.Frames.{boot_is, other_is}
+use Rattle.nesc_core.specs.WellFormed.{AreStmts, Exits, IsBody, IsDone, IsGiven, IsStmt, by_result, by_return, in_loop, in_switch}
+use Rattle.kernel_laws.specs.Laws.{TasklessBodiesStay}
+use Rattle.kernel_laws.proofs.Frames.{body_is}
 use Rattle.task_queue.specs.Posting.{posting_expr, posting_exprs, posting_maybe, posting_place, posting_stmt, posting_stmts}
 
 two : {A B C : Type 0} (f : A → B → C) {a a' : A} {b b' : B} → a ≡ a' → b ≡ b' → f a b ≡ f a' b'
@@ -112,11 +110,8 @@ at P [] k x is all = absurd (none-some _ is)
 at P (y ∷ xs) zero x is all = subst P (same_Some _ _ is) (All-head P y xs all)
 at P (y ∷ xs) (suc k) x is all = at P xs k x is (All-tail P y xs all)
 
-pub bodies_stay : (p : Program) → IsWellFormed p → p.tasks ≡ [] → BodiesStay p
-bodies_stay p formed empty = record {
-  boot = λ b c old new. boot_is p b c old new ∙ ap (λ s. record b { locals = b.locals ++ int U16 ∷ []; code = booting (clearing (length p.objects) (length p.tasks + 2) (length b.locals)) s }) (code_same p.boot b old);
-  others = λ f b c differs old new. other_is p f b c differs old new ∙ ap (λ s. record b { code = s }) (code_same f b old);
-}
-  where
-    code_same : (f : ℕ) (b : Body) → slice_get p.bodies f ≡ Some b → posting_stmt (length p.bodies) b.code ≡ b.code
-    code_same f b is = let body = at (IsBody p) p.bodies f b is formed.bodies in stmt_same p (ap length empty) (length p.bodies) b.locals b.code (by_return b.result) body.code
+pub bodies_stay : TasklessBodiesStay
+bodies_stay p formed empty f b c old new =
+    let body = at (IsBody p) p.bodies f b old formed.bodies in
+    let same : posting_stmt (length p.bodies) b.code ≡ b.code = stmt_same p (ap length empty) (length p.bodies) b.locals b.code (by_return b.result) body.code in
+    body_is p f b c old new ∙ ap (λ s. record b { code = s }) same

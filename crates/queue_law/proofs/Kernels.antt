@@ -8,8 +8,8 @@ use Rattle.task_queue.specs.Kernel.{Fits, kernel_program, queue_code}
 use Rattle.task_queue.proofs.Bodies.{queue_is, pop_is}
 use Rattle.queue_law.specs.Contract.{IsStatement}
 use Rattle.queue_law.specs.Bytes.{is_byte_in}
-use Rattle.queue_law.specs.Law.{KernelQueues}
-use Rattle.queue_law.proofs.Stepping.{few, types}
+use Rattle.queue_law.specs.Law.{KernelQueues, posting, taking}
+use Rattle.queue_law.proofs.Stepping.{few, types, holds}
 use Rattle.queue_law.proofs.Queueing as queueing
 use Rattle.queue_law.proofs.Popping as popping
 
@@ -22,11 +22,11 @@ kernel_queues p fits = record {
   posts = λ depth n k low after st tasks stands.
       let calls = calls_of (kernel_program p) depth n in
       let room = few p fits calls in
-      subst (λ (o : Option Body). IsStatement (is_byte_in p) (enter (kernel_program p) o calls n (pos k ∷ []) after) st (queueing.Behind p fits calls n after k low tasks)) (sym (queue_is p))
-      (subst (λ x. IsStatement (is_byte_in p) (run (kernel_program p) types calls n (queue_code (length p.objects)) (λ flow locals. after (result flow)) ((x ∷ []) ∷ [])) st (queueing.Behind p fits calls n after k low tasks))
+      subst (λ (o : Option Body). IsStatement (is_byte_in p) (enter (kernel_program p) o calls n (pos k ∷ []) after) posting st (queueing.Behind p fits calls n after k low tasks)) (sym (queue_is p))
+      (subst (λ x. IsStatement (is_byte_in p) (run (kernel_program p) types calls n (queue_code (length p.objects)) (λ flow locals. after (result flow)) (holds x 0)) posting st (queueing.Behind p fits calls n after k low tasks))
       (sym (passed k (omega (arith, low, room)))) (queueing.queue_in p fits calls n after k low tasks st stands));
   takes = λ depth n after st tasks stands.
       let calls = calls_of (kernel_program p) depth n in
-      subst (λ (o : Option Body). IsStatement (is_byte_in p) (enter (kernel_program p) o calls n [] after) st (popping.Behind p fits calls n after tasks)) (sym (pop_is p))
+      subst (λ (o : Option Body). IsStatement (is_byte_in p) (enter (kernel_program p) o calls n [] after) taking st (popping.Behind p fits calls n after tasks)) (sym (pop_is p))
       (popping.pop_in p fits calls n after tasks st stands);
 }

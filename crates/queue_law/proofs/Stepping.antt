@@ -1,16 +1,16 @@
 -- Pieces of the kernel's two functions, each inside an atomic statement: what is read and what is written.
 use Rattle.std.proofs.Common.{◌≡◌, ◌≢◌, ℕ, ℤ, pos, ◌+◌, ◌*◌, ◌%◌, ◌^◌, ◌<◌, ◌≤◌, Bool, true, false, List, [], ◌∷◌, ◌++◌, length, Option, Some, refl, sym, subst, ap, ◌∙◌, arith}
-use Rattle.std.specs.Prelude.{◌==◌, ◌&&◌, nat_le, nat_lt, if◌then◌else◌, slice_get, ◌+ℤ◌, unsigned_abs}
+use Rattle.std.specs.Prelude.{suc, ◌==◌, ◌&&◌, nat_le, nat_lt, if◌then◌else◌, slice_get, slice_set, slice_index_or, ◌-ℤ◌, unsigned_abs}
 use Rattle.std.specs.Int.{int_rem_euclid}
 use Rattle.std.specs.Ordering.{int_eq}
 use Rattle.std.proofs.Math.Nat.{mod-eq_of_lt}
 use Rattle.std.proofs.lemmas.Bool.Decides.{nat_tests, Decides-eqb, Decides-int_eq, same_from_decides}
+use Rattle.std.proofs.lemmas.Int.{ints}
 use Rattle.nm_base.specs.Behaviour.{Behaviour, Does, Asks}
 use Rattle.nm_base.specs.declared.action.Action.TheVariants.{Load, Store}
 use Rattle.nm_base.specs.declared.int_type.IntType.TheVariants.{U8, U16}
 use Rattle.nm_base.specs.IntType.{wrapped}
-use Rattle.nesc_core.specs.declared.tree.BinOp.TheVariants.{Add}
-use Rattle.nesc_core.specs.Plain.{Ty, int, Expr, Object, Program, bin, assign}
+use Rattle.nesc_core.specs.Plain.{Ty, int, Expr, Object, Program, convert, assign, local}
 use Rattle.nesc_core.specs.PlaceTypes.{element_of, count_of, object_type}
 use Rattle.nesc_core.specs.Weights.{even, objects_end}
 use Rattle.core_meaning.specs.Layout.{size_of, object_address}
@@ -21,7 +21,7 @@ use Rattle.core_meaning.specs.declared.access.Where.TheVariants.{At}
 use Rattle.core_meaning.specs.Act.{Calls, value, element}
 use Rattle.run_meaning.specs.State.{stored}
 use Rattle.task_queue.specs.Posting.{nowhere}
-use Rattle.task_queue.specs.Kernel.{Fits, bytes_object, kernel_program, byte_of, value_at, word_at, word, task, the_task, tail, next}
+use Rattle.task_queue.specs.Kernel.{Fits, bytes_object, kernel_program, byte_of, value_at, word_at, word, task, the_task, other, the_other, sum, less}
 use Rattle.queue_law.specs.Contract.{IsQueued, Inside}
 use Rattle.queue_law.specs.Bytes.{address_in, is_byte_in}
 use Rattle.queue_law.proofs.Lists.{is_same, is_other}
@@ -39,8 +39,8 @@ kept_byte n small = ap pos (mod-eq_of_lt small)
 pub kept_word : (n : ℕ) → n < 65536 → int_rem_euclid (pos n) (pos 65536) ≡ pos n
 kept_word n small = ap pos (mod-eq_of_lt small)
 
-pub both_kept : (n : ℕ) → n < 256 → wrapped U16 (wrapped U8 (pos n)) ≡ pos n
-both_kept n small = ap (wrapped U16) (kept_byte n small) ∙ kept_word n (omega (arith, small))
+one_less : (n : ℕ) → pos (n + 1) -ℤ pos 1 ≡ pos n
+one_less n = omega (arith, ints)
 
 pub residue_is : (n : ℕ) → n < 256 → residue 8 (pos n) ≡ n
 residue_is n small = mod-eq_of_lt small
@@ -72,13 +72,13 @@ last_object (x ∷ os) o = last_object os o
 even_most : (n : ℕ) → even n ≤ n + 1
 even_most n = omega arith
 
--- ---- both functions have one local, of a byte
+-- ---- both functions have two locals, of a byte each
 
 abbrev pub types : List Ty
-types = int U8 ∷ []
+types = int U8 ∷ int U8 ∷ []
 
-abbrev pub holds : ℕ → Locals
-holds k = (k ∷ []) ∷ []
+abbrev pub holds : (first second : ℕ) → Locals
+holds k j = (k ∷ []) ∷ (j ∷ []) ∷ []
 
 module _ (p : Program) (fits : Fits p) (calls : Calls) where
   abbrev pub K : Program
@@ -132,57 +132,73 @@ module _ (p : Program) (fits : Fits p) (calls : Calls) where
   abbrev pub Gives : Expr → Locals → ℕ → Type 0
   Gives e locals i = (after : ℤ → Locals → Behaviour) → value K types calls e after locals ≡ after (pos i) locals
 
-  pub task_gives : (k : ℕ) → k < 256 → Gives task (holds k) k
-  task_gives k small after = ap (λ v. after v (holds k)) (kept_byte k small)
+  pub as_byte : (e : Expr) (locals : Locals) (i : ℕ) → i < 256 → Gives e locals i → Gives (convert U8 e) locals i
+  as_byte e locals i small gives after = gives (λ x. after (wrapped U8 x)) ∙ ap (λ v. after v locals) (kept_byte i small)
 
-  pub the_task_gives : (k : ℕ) → k < 256 → Gives the_task (holds k) k
-  the_task_gives k small after = ap (λ v. after v (holds k)) (both_kept k small)
+  as_word : (e : Expr) (locals : Locals) (i : ℕ) → i < 256 → Gives e locals i → Gives (convert U16 e) locals i
+  as_word e locals i small gives after = gives (λ x. after (wrapped U16 x)) ∙ ap (λ v. after v locals) (kept_word i (omega (arith, small)))
 
-  pub next_gives : (e : Expr) (locals : Locals) (k : ℕ) → k < 256 → Gives e locals k → Gives (bin Add U16 e (word 2)) locals (k + 2)
-  next_gives e locals k small gives after = gives _ ∙ ap (λ v. after v locals) (kept_word (k + 2) (omega (arith, small)))
+  pub task_gives : (k j : ℕ) → k < 256 → Gives task (holds k j) k
+  task_gives k j small after = ap (λ v. after v (holds k j)) (kept_byte k small)
+
+  pub the_task_gives : (k j : ℕ) → k < 256 → Gives the_task (holds k j) k
+  the_task_gives k j small = as_word task (holds k j) k small (task_gives k j small)
+
+  pub other_gives : (k j : ℕ) → j < 256 → Gives other (holds k j) j
+  other_gives k j small after = ap (λ v. after v (holds k j)) (kept_byte j small)
+
+  pub the_other_gives : (k j : ℕ) → j < 256 → Gives the_other (holds k j) j
+  the_other_gives k j small = as_word other (holds k j) j small (other_gives k j small)
+
+  pub one_more_gives : (e : Expr) (locals : Locals) (k : ℕ) → k < 256 → Gives e locals k → Gives (sum e (word 1)) locals (k + 1)
+  one_more_gives e locals k small gives after = gives _ ∙ ap (λ v. after v locals) (kept_word (k + 1) (omega (arith, small)))
+
+  pub one_less_gives : (e : Expr) (locals : Locals) (k : ℕ) → k < 256 → Gives e locals (k + 1) → Gives (less e (word 1)) locals k
+  one_less_gives e locals k small gives after = gives _ ∙ ap (λ v. after (wrapped U16 v) locals) (one_less k) ∙ ap (λ v. after v locals) (kept_word k (omega (arith, small)))
 
   -- ---- inside a statement
 
   module _ (Behind : (ℕ → ℕ) → Behaviour → Type 0) where
-    abbrev pub In : Behaviour → (ℕ → ℕ) → Type 0
-    In b st = Inside (is_byte_in p) b st Behind
+    abbrev pub In : Behaviour → (most : ℕ) → (ℕ → ℕ) → Type 0
+    In b most st = Inside (is_byte_in p) b most st Behind
 
     queued : (i : ℕ) → i < N + 2 → IsQueued (is_byte_in p) (A + i) false
     queued i lt = (ap (λ t. t && nat_lt (A + i) (A + (N + 2))) (at_most A (A + i) (omega arith)) ∙ below (A + i) (A + (N + 2)) (omega (arith, lt)), λ wide. absurd (cc))
 
     -- a byte, as it is and as a word
-    pub byte_in : (e : Expr) (i m : ℕ) (st : ℕ → ℕ) (after : ℤ → Locals → Behaviour) (locals : Locals) → Gives e locals i → i < N + 2 → st (A + i) ≡ m → m < 256
-        → In (after (pos m) locals) st → In (value K types calls (value_at (byte_of bytes e)) after locals) st
-    byte_in e i m st after locals gives lt is small h =
-        subst (λ b. In b st) (sym (gives _ ∙ reading_is i lt after locals))
-        (queued i lt, subst (λ v. In (after v locals) st) (sym (ap (λ x. wrapped U8 (pos x)) is ∙ kept_byte m small)) h)
+    byte_in : (e : Expr) (i m most : ℕ) (st : ℕ → ℕ) (after : ℤ → Locals → Behaviour) (locals : Locals) → Gives e locals i → i < N + 2 → st (A + i) ≡ m → m < 256
+        → In (after (pos m) locals) most st → In (value K types calls (value_at (byte_of bytes e)) after locals) (suc most) st
+    byte_in e i m most st after locals gives lt is small h =
+        subst (λ b. In b (suc most) st) (sym (gives _ ∙ reading_is i lt after locals))
+        (queued i lt, subst (λ v. In (after v locals) most st) (sym (ap (λ x. wrapped U8 (pos x)) is ∙ kept_byte m small)) h)
 
-    pub word_in : (e : Expr) (i m : ℕ) (st : ℕ → ℕ) (after : ℤ → Locals → Behaviour) (locals : Locals) → Gives e locals i → i < N + 2 → st (A + i) ≡ m → m < 256
-        → In (after (pos m) locals) st → In (value K types calls (word_at (byte_of bytes e)) after locals) st
-    word_in e i m st after locals gives lt is small h =
-        byte_in e i m st (λ x. after (wrapped U16 x)) locals gives lt is small (subst (λ v. In (after v locals) st) (sym (kept_word m (omega (arith, small)))) h)
+    pub word_in : (e : Expr) (i m most : ℕ) (st : ℕ → ℕ) (after : ℤ → Locals → Behaviour) (locals : Locals) → Gives e locals i → i < N + 2 → st (A + i) ≡ m → m < 256
+        → In (after (pos m) locals) most st → In (value K types calls (word_at (byte_of bytes e)) after locals) (suc most) st
+    word_in e i m most st after locals gives lt is small h =
+        byte_in e i m most st (λ x. after (wrapped U16 x)) locals gives lt is small (subst (λ v. In (after v locals) most st) (sym (kept_word m (omega (arith, small)))) h)
 
-    -- what is written, once it is known
-    wrote_in : (i j : ℕ) (st : ℕ → ℕ) (after : ℤ → Locals → Behaviour) (locals : Locals) → i < N + 2 → j < 256
-        → In (after (pos j) locals) (stored st (A + i) false j) → In (Does (Store (A + i) false (residue 8 (pos j))) (after (pos j) locals)) st
-    wrote_in i j st after locals lt small h = (queued i lt, subst (λ v. In (after (pos j) locals) (stored st (A + i) false v)) (sym (residue_is j small)) h)
+    -- a local gets a value, or a byte that is read
+    pub first_gets_in : (e : Expr) (k j i most : ℕ) (st : ℕ → ℕ) (after : ℤ → Locals → Behaviour) → Gives e (holds k j) i → i < 256
+        → In (after (pos i) (holds i j)) most st → In (value K types calls (assign (local 0) e nowhere) after (holds k j)) most st
+    first_gets_in e k j i most st after gives small h =
+        subst (λ b. In b most st) (sym (gives (λ v l. after v (slice_set l 0 (slice_set (slice_index_or l 0 []) 0 (residue 8 v))))))
+        (subst (λ x. In (after (pos i) (holds x j)) most st) (sym (residue_is i small)) h)
 
-    pub put_in : (e v : Expr) (i j : ℕ) (st : ℕ → ℕ) (after : ℤ → Locals → Behaviour) (locals : Locals) → Gives e locals i → i < N + 2 → Gives v locals j → j < 256
-        → In (after (pos j) locals) (stored st (A + i) false j) → In (value K types calls (assign (byte_of bytes e) v nowhere) after locals) st
-    put_in e v i j st after locals gives lt given small h =
-        subst (λ b. In b st) (sym (gives _ ∙ writing_is i lt v after locals ∙ given _)) (wrote_in i j st after locals lt small h)
+    pub first_reads_in : (e : Expr) (k j i m most : ℕ) (st : ℕ → ℕ) (after : ℤ → Locals → Behaviour) → Gives e (holds k j) i → i < N + 2 → st (A + i) ≡ m → m < 256
+        → In (after (pos m) (holds m j)) most st → In (value K types calls (assign (local 0) (value_at (byte_of bytes e)) nowhere) after (holds k j)) (suc most) st
+    first_reads_in e k j i m most st after gives lt is small h =
+        byte_in e i m most st (λ v l. after v (slice_set l 0 (slice_set (slice_index_or l 0 []) 0 (residue 8 v)))) (holds k j) gives lt is small
+        (subst (λ x. In (after (pos m) (holds x j)) most st) (sym (residue_is m small)) h)
 
-    -- the byte that is written is read before
-    pub move_in : (e f : Expr) (i g m : ℕ) (st : ℕ → ℕ) (after : ℤ → Locals → Behaviour) (locals : Locals) → Gives e locals i → i < N + 2 → Gives f locals g → g < N + 2 → st (A + g) ≡ m → m < 256
-        → In (after (pos m) locals) (stored st (A + i) false m) → In (value K types calls (assign (byte_of bytes e) (value_at (byte_of bytes f)) nowhere) after locals) st
-    move_in e f i g m st after locals gives lt from less is small h =
-        subst (λ b. In b st) (sym (gives _ ∙ writing_is i lt (value_at (byte_of bytes f)) after locals))
-        (byte_in f g m st (λ x l. Does (Store (A + i) false (residue 8 x)) (after x l)) locals from less is small (wrote_in i m st after locals lt small h))
+    pub second_reads_in : (e : Expr) (k j i m most : ℕ) (st : ℕ → ℕ) (after : ℤ → Locals → Behaviour) → Gives e (holds k j) i → i < N + 2 → st (A + i) ≡ m → m < 256
+        → In (after (pos m) (holds k m)) most st → In (value K types calls (assign (local 1) (value_at (byte_of bytes e)) nowhere) after (holds k j)) (suc most) st
+    second_reads_in e k j i m most st after gives lt is small h =
+        byte_in e i m most st (λ v l. after v (slice_set l 1 (slice_set (slice_index_or l 1 []) 0 (residue 8 v)))) (holds k j) gives lt is small
+        (subst (λ x. In (after (pos m) (holds k x)) most st) (sym (residue_is m small)) h)
 
-    -- the place that is written is read before
-    pub behind_in : (v : Expr) (k j : ℕ) (st : ℕ → ℕ) (after : ℤ → Locals → Behaviour) (locals : Locals) → st (A + 1) ≡ k → k < N → Gives v locals j → j < 256
-        → In (after (pos j) locals) (stored st (A + (k + 2)) false j) → In (value K types calls (assign (next bytes (word_at (tail bytes))) v nowhere) after locals) st
-    behind_in v k j st after locals is lt given small h =
-        word_in (word 1) 1 k st (λ x. writing (slice_get K.objects bytes) v after (wrapped U16 (x +ℤ pos 2))) locals (λ _. refl) (omega arith) is (omega (arith, lt, few))
-        (subst (λ x. In (writing (slice_get K.objects bytes) v after x locals) st) (sym (kept_word (k + 2) (omega (arith, lt, few))))
-        (subst (λ b. In b st) (sym (writing_is (k + 2) (omega (arith, lt)) v after locals ∙ given _)) (wrote_in (k + 2) j st after locals (omega (arith, lt)) small h)))
+    -- a byte gets a value
+    pub put_in : (e v : Expr) (i j most : ℕ) (st : ℕ → ℕ) (after : ℤ → Locals → Behaviour) (locals : Locals) → Gives e locals i → i < N + 2 → Gives v locals j → j < 256
+        → In (after (pos j) locals) most (stored st (A + i) false j) → In (value K types calls (assign (byte_of bytes e) v nowhere) after locals) (suc most) st
+    put_in e v i j most st after locals gives lt given small h =
+        subst (λ b. In b (suc most) st) (sym (gives _ ∙ writing_is i lt v after locals ∙ given _))
+        (queued i lt, subst (λ w. In (after (pos j) locals) most (stored st (A + i) false w)) (sym (residue_is j small)) h)

@@ -3,18 +3,21 @@ use Rattle.std.specs.Prelude.{◌≡◌, ℕ, ◌+◌, ◌<◌, ◌==◌, nat_le
 use Rattle.run_meaning.specs.Runs.{is_listed}
 use Rattle.nesc_core.specs.Plain.{Program}
 use Rattle.nesc_core.specs.Weights.{even, objects_end}
-use Rattle.task_queue.specs.Kernel.{none}
-use Rattle.queue_law.specs.Contract.{first_of}
+
+-- in a byte the task at place k is k + 1, and 0 is none
+abbrev pub entry_of : List ℕ → ℕ
+entry_of [] = 0
+entry_of (k ∷ rest) = k + 1
 
 abbrev pub last_of : List ℕ → ℕ
-last_of [] = none
-last_of (k ∷ []) = k
+last_of [] = 0
+last_of (k ∷ []) = k + 1
 last_of (k ∷ j ∷ rest) = last_of (j ∷ rest)
 
 -- the task behind task k
 abbrev pub behind : List ℕ → ℕ → ℕ
-behind [] k = none
-behind (j ∷ rest) k = if j == k then first_of rest else behind rest k
+behind [] k = 0
+behind (j ∷ rest) k = if j == k then entry_of rest else behind rest k
 
 -- each task is one of `count`, and stands there once
 abbrev pub AreTasks : (count : ℕ) → List ℕ → Type 0
@@ -23,7 +26,7 @@ AreTasks count (k ∷ rest) = (k < count) × (is_listed rest k ≡ false) × Are
 
 -- from this address on, for so many tasks; every other task has none behind it
 pub record StandFor (address count : ℕ) (st : ℕ → ℕ) (tasks : List ℕ) : Type 0 where
-  pub head : st address ≡ first_of tasks
+  pub head : st address ≡ entry_of tasks
   pub tail : st (address + 1) ≡ last_of tasks
   pub next : (k : ℕ) → k < count → st (address + (k + 2)) ≡ behind tasks k
   pub are : AreTasks count tasks

@@ -70,30 +70,28 @@ frame_of p f = weight_of p (slice_get p.bodies f)
 pub record WorkedRows : Type 0 where
   pub numbers_row : ((kernel three).queue ≡ 5) × ((kernel three).pop ≡ 6)
   -- the list is empty at first
-  pub to_empty : queued 1 (255 ∷ 255 ∷ 255 ∷ 255 ∷ 255 ∷ []) ≡ (1 ∷ 1 ∷ 255 ∷ 255 ∷ 255 ∷ [], 0)
+  pub to_empty : queued 1 (0 ∷ 0 ∷ 0 ∷ 0 ∷ 0 ∷ []) ≡ (2 ∷ 2 ∷ 0 ∷ 0 ∷ 0 ∷ [], 0)
   -- the only one, the first, one in the middle and the last wait already
-  pub twice : queued 1 (1 ∷ 1 ∷ 255 ∷ 255 ∷ 255 ∷ []) ≡ (1 ∷ 1 ∷ 255 ∷ 255 ∷ 255 ∷ [], 5)
-  pub second : queued 0 (1 ∷ 1 ∷ 255 ∷ 255 ∷ 255 ∷ []) ≡ (1 ∷ 0 ∷ 255 ∷ 0 ∷ 255 ∷ [], 0)
-  pub third : queued 2 (1 ∷ 0 ∷ 255 ∷ 0 ∷ 255 ∷ []) ≡ (1 ∷ 2 ∷ 2 ∷ 0 ∷ 255 ∷ [], 0)
-  pub first_waits : queued 1 (1 ∷ 2 ∷ 2 ∷ 0 ∷ 255 ∷ []) ≡ (1 ∷ 2 ∷ 2 ∷ 0 ∷ 255 ∷ [], 5)
-  pub middle_waits : queued 0 (1 ∷ 2 ∷ 2 ∷ 0 ∷ 255 ∷ []) ≡ (1 ∷ 2 ∷ 2 ∷ 0 ∷ 255 ∷ [], 5)
-  pub last_waits : queued 2 (1 ∷ 2 ∷ 2 ∷ 0 ∷ 255 ∷ []) ≡ (1 ∷ 2 ∷ 2 ∷ 0 ∷ 255 ∷ [], 5)
+  pub twice : queued 1 (2 ∷ 2 ∷ 0 ∷ 0 ∷ 0 ∷ []) ≡ (2 ∷ 2 ∷ 0 ∷ 0 ∷ 0 ∷ [], 5)
+  pub second : queued 0 (2 ∷ 2 ∷ 0 ∷ 0 ∷ 0 ∷ []) ≡ (2 ∷ 1 ∷ 0 ∷ 1 ∷ 0 ∷ [], 0)
+  pub third : queued 2 (2 ∷ 1 ∷ 0 ∷ 1 ∷ 0 ∷ []) ≡ (2 ∷ 3 ∷ 3 ∷ 1 ∷ 0 ∷ [], 0)
+  pub first_waits : queued 1 (2 ∷ 3 ∷ 3 ∷ 1 ∷ 0 ∷ []) ≡ (2 ∷ 3 ∷ 3 ∷ 1 ∷ 0 ∷ [], 5)
+  pub middle_waits : queued 0 (2 ∷ 3 ∷ 3 ∷ 1 ∷ 0 ∷ []) ≡ (2 ∷ 3 ∷ 3 ∷ 1 ∷ 0 ∷ [], 5)
+  pub last_waits : queued 2 (2 ∷ 3 ∷ 3 ∷ 1 ∷ 0 ∷ []) ≡ (2 ∷ 3 ∷ 3 ∷ 1 ∷ 0 ∷ [], 5)
   -- taken in the same order
-  pub first_taken : popped (1 ∷ 2 ∷ 2 ∷ 0 ∷ 255 ∷ []) ≡ (0 ∷ 2 ∷ 2 ∷ 255 ∷ 255 ∷ [], 1)
-  pub second_taken : popped (0 ∷ 2 ∷ 2 ∷ 255 ∷ 255 ∷ []) ≡ (2 ∷ 2 ∷ 255 ∷ 255 ∷ 255 ∷ [], 0)
-  pub last_taken : popped (2 ∷ 2 ∷ 255 ∷ 255 ∷ 255 ∷ []) ≡ (255 ∷ 255 ∷ 255 ∷ 255 ∷ 255 ∷ [], 2)
-  pub none_taken : popped (255 ∷ 255 ∷ 255 ∷ 255 ∷ 255 ∷ []) ≡ (255 ∷ 255 ∷ 255 ∷ 255 ∷ 255 ∷ [], 255)
-  -- the boot function clears the bytes, and then does what it did: a post, whose answer is not looked at
-  pub boots : played 0x1104 (root (kernel three).program 0 6) (7 ∷ 7 ∷ 7 ∷ 7 ∷ 7 ∷ []) ≡ (1 ∷ 1 ∷ 255 ∷ 255 ∷ 255 ∷ [], 0)
-  -- six turns of the loop, the last of which only tests
-  pub cut_off : played 0x1104 (root (kernel three).program 0 5) (7 ∷ 7 ∷ 7 ∷ 7 ∷ 7 ∷ []) ≡ ([], 256)
-  -- a post is one atomic statement with the ticks of a call around it
-  pub posted : actions_of_three 4 (255 ∷ 255 ∷ 255 ∷ []) ≡ Tick ∷ Begin ∷ Load 0x1106 false ∷ Load 0x1105 false ∷ Load 0x1105 false ∷ Store 0x1104 false 0 ∷ Store 0x1105 false 0 ∷ End ∷ Tick ∷ []
-  pub posted_again : actions_of_three 4 (255 ∷ 0 ∷ []) ≡ Tick ∷ Begin ∷ Load 0x1106 false ∷ Load 0x1105 false ∷ End ∷ Tick ∷ []
+  pub first_taken : popped (2 ∷ 3 ∷ 3 ∷ 1 ∷ 0 ∷ []) ≡ (1 ∷ 3 ∷ 3 ∷ 0 ∷ 0 ∷ [], 1)
+  pub second_taken : popped (1 ∷ 3 ∷ 3 ∷ 0 ∷ 0 ∷ []) ≡ (3 ∷ 3 ∷ 0 ∷ 0 ∷ 0 ∷ [], 0)
+  pub last_taken : popped (3 ∷ 3 ∷ 0 ∷ 0 ∷ 0 ∷ []) ≡ (0 ∷ 0 ∷ 0 ∷ 0 ∷ 0 ∷ [], 2)
+  pub none_taken : popped (0 ∷ 0 ∷ 0 ∷ 0 ∷ 0 ∷ []) ≡ (0 ∷ 0 ∷ 0 ∷ 0 ∷ 0 ∷ [], 255)
+  -- the boot function does what it did: a post, whose answer is not looked at
+  pub boots : played 0x1104 (root (kernel three).program 0 1) (0 ∷ 0 ∷ 0 ∷ 0 ∷ 0 ∷ []) ≡ (2 ∷ 2 ∷ 0 ∷ 0 ∷ 0 ∷ [], 0)
+  -- a post is one atomic statement of at most four accesses, with the ticks of a call around it
+  pub posted : actions_of_three 4 (0 ∷ 0 ∷ []) ≡ Tick ∷ Begin ∷ Load 0x1105 false ∷ Load 0x1106 false ∷ Store 0x1104 false 1 ∷ Store 0x1105 false 1 ∷ End ∷ Tick ∷ []
+  pub posted_again : actions_of_three 4 (1 ∷ 0 ∷ []) ≡ Tick ∷ Begin ∷ Load 0x1105 false ∷ Load 0x1106 false ∷ End ∷ Tick ∷ []
   -- without tasks the list stays empty
-  pub taskless_boots : played 0x1100 (root (kernel taskless).program 0 3) (7 ∷ 7 ∷ []) ≡ (255 ∷ 255 ∷ [], 0)
+  pub taskless_boots : played 0x1100 (root (kernel taskless).program 0 1) (0 ∷ 0 ∷ []) ≡ (0 ∷ 0 ∷ [], 0)
   -- what frames and data take
-  pub queue_frame : frame_of (kernel three).program 5 ≡ 84
-  pub pop_frame : frame_of (kernel three).program 6 ≡ 80
-  pub boot_frame : frame_of (kernel three).program 0 ≡ frame_of three 0 + 18
+  pub queue_frame : frame_of (kernel three).program 5 ≡ 86
+  pub pop_frame : frame_of (kernel three).program 6 ≡ 82
+  pub boot_frame : frame_of (kernel three).program 0 ≡ frame_of three 0 + 4
   pub data_end : objects_end (kernel three).program ≡ 0x1109

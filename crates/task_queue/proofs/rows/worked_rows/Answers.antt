@@ -16,7 +16,6 @@ returns c = record {
   last_taken = refl;
   none_taken = refl;
   boots = refl;
-  cut_off = refl;
   posted = refl;
   posted_again = refl;
   taskless_boots = refl;

@@ -1,0 +1,9 @@
+pub mod Lists
+pub mod Statements
+pub mod Expanding
+pub mod Accessing
+pub mod Same
+pub mod Walking
+pub mod Bodies
+pub mod Bytes
+pub mod Whole

@@ -1,0 +1,4 @@
+pub mod Alone
+pub mod Formed
+pub mod Own
+pub mod Typed

@@ -1,0 +1,12 @@
+pub mod Leads
+pub mod Phases
+pub mod Acting
+pub mod Doing
+pub mod Step
+pub mod Popping
+pub mod Like
+pub mod Loops
+pub mod Moves
+pub mod Following
+pub mod Whole
+pub mod OneKernel

@@ -1,0 +1,4 @@
+-- Both levels of images with tasks together.
+pub mod Kept
+pub mod Following
+pub mod Whole
