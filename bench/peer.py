@@ -26,7 +26,7 @@ implementation {
   enum { DEPTH = 8, STEP = %(step)d };
   uint16_t values[DEPTH];
   uint8_t next;
-  uint32_t sum;
+  uint16_t sum;
 
   uint16_t mean() { uint16_t result; atomic result = sum >> 3; return result; }
 

@@ -1,0 +1,1 @@
+interface Go { command void go(); }

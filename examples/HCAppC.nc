@@ -1,0 +1,5 @@
+configuration HCAppC { }
+implementation {
+  components HC, SC;
+  HC.Go -> SC;
+}

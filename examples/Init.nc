@@ -1,0 +1,1 @@
+interface Init { command error_t init(); }

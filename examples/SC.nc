@@ -1,0 +1,5 @@
+module SC { provides interface Go; }
+implementation {
+  uint8_t count;
+  command void Go.go() { count++; }
+}
