@@ -16,13 +16,14 @@ use Rattle.msp_select.specs.Select.{entry_of, parts_of_all, parts_of_fn}
 use Rattle.select_emitter.specs.Code.{code_of, fn_items}
 use Rattle.code_bytes.specs.Bytes.{most_in}
 use Rattle.body_bytes.specs.Laws.{BodiesAreSmall}
-use Rattle.body_bytes.specs.Lean.{IsLeanStmt}
+use Rattle.lean_pace.specs.Lean.{IsLeanStmt}
 use Rattle.body_bytes.proofs.Costs.{costs}
 use Rattle.body_bytes.proofs.Parts.{all_bytes, bytes_are, bytes_both, entry_bytes}
+use Rattle.body_bytes.proofs.Small.{stmt_small}
 use Rattle.body_bytes.proofs.Spots.{framed_of}
 use Rattle.body_bytes.proofs.Stmts.{body_light}
 
-function_bytes : (c : MidCode) (fn : MidFn) → most_in (fn_items c fn) ≤ 10 + costs fn.code
+pub function_bytes : (c : MidCode) (fn : MidFn) → most_in (fn_items c fn) ≤ 10 + costs fn.code
 function_bytes c fn =
     let e1 = bytes_are (parts_of_fn c (frame_home fn) (own_bytes fn) fn) in
     let e2 = bytes_both (entry_of (own_bytes fn)) (parts_of_all c (frame_home fn) (own_bytes fn) fn.code) in
@@ -34,7 +35,7 @@ abbrev bytes_of : CodeFn → ℕ
 bytes_of f = most_in f.items
 
 module _ (p : Program) (c : MidCode) (checks : List Ty) where
-  body_bytes : (b : Body) → IsBody p b → IsLeanStmt b.code → most_in (fn_items c (mid_fn_of p checks b)) + 62 * length (stmt_derefs b.code) ≤ 96 * body_nodes_of b
+  pub body_bytes : (b : Body) → IsBody p b → IsLeanStmt b.code → most_in (fn_items c (mid_fn_of p checks b)) + 62 * length (stmt_derefs b.code) + 96 * stmt_small b.code + 10 ≤ 96 * body_nodes_of b
   body_bytes b formed lean =
       let h = function_bytes c (mid_fn_of p checks b) in
       let g = body_light p checks b (framed_of p b) formed.code lean in

@@ -81,7 +81,7 @@ bin_most false = omega arith
 same : (r : ℕ) → (r == r) ≡ true
 same r = grind (arith, nat_tests)
 
-bin_same : (r : ℕ) → bin_cost (r == r) ≡ 6
+pub bin_same : (r : ℕ) → bin_cost (r == r) ≡ 6
 bin_same r = ap bin_cost (same r)
 
 -- ---- code

@@ -1,5 +1,5 @@
--- The bytes of the code of expressions and places, with 62 for each dereference, beside those of their nodes.
-use Rattle.std.proofs.Common.{◌≡◌, ℕ, ◌+◌, ◌*◌, ◌≤◌, Bool, true, false, List, [], ◌∷◌, ◌++◌, length, take, Option, Some, None, arith, length-append}
+-- The bytes of the code of expressions and places, with 62 for each dereference and 96 for each small call, beside those of their nodes.
+use Rattle.std.proofs.Common.{◌≡◌, ℕ, ◌+◌, ◌*◌, ◌≤◌, Bool, true, false, List, [], ◌∷◌, ◌++◌, length, take, Option, Some, None, refl, arith, length-append}
 use Rattle.std.specs.Prelude.{◌==◌, if◌then◌else◌, slice_get}
 use Rattle.nm_base.specs.declared.int_type.IntType.{IntType}
 use Rattle.nm_base.specs.declared.int_type.IntType.TheVariants.{I8, U8, I16, U16, I32, U32}
@@ -20,15 +20,16 @@ use Rattle.mid_code.specs.declared.instr.Test.TheVariants.{Eq, Ne}
 use Rattle.mid_code.specs.Help.{first_check, is_wide}
 use Rattle.open_law.specs.Homes.{is_made}
 use Rattle.lower_expr.specs.declared.spot.Spot.{Spot}
-use Rattle.lower_expr.specs.Held.{held, result_of}
+use Rattle.lower_expr.specs.Held.{held, low, result_of}
 use Rattle.lower_expr.specs.Pieces.{binary_code, convert_code, distance_code, element_code, move_code, offset_code, truth_code, unary_code, values_at, zero_code}
 use Rattle.lower_expr.specs.Code.{Kind, InValues, InFrame, InMemory, address_code, args_code, check_of, expr_code, fetch_code, is_void, kind_of, labels, passed_at, place_code, place_labels, put_code, taken_at}
 use Rattle.body_bytes.proofs.Costs.{address_within, bin_most, binary_within, both, const_within, convert_within, costs, distance_within, element_within, fetch_most, fetch_within, fit_most, fit_within, high_most, convert_most, local_within, move_most, move_within, offset_within, put_most, put_within, set_most, truth_within, unary_within, zero_within}
+use Rattle.body_bytes.proofs.Small.{exprs_small, is_byte, one_at_most, place_small, small_calls, small_one}
 use Rattle.body_bytes.proofs.Updates.{AreFramed, of_updated, spare, tail_most, tail_within, update_few}
 
--- code of so many nodes and dereferences, with some bytes to spare
-pub record IsLight (nodes derefs left : ℕ) (c : List Mid) : Type 0 where
-  pub le : costs c + 62 * derefs + left ≤ 96 * nodes
+-- code of so many nodes, dereferences and small calls, with some bytes to spare
+pub record IsLight (nodes derefs small left : ℕ) (c : List Mid) : Type 0 where
+  pub le : costs c + 62 * derefs + 96 * small + left ≤ 96 * nodes
 
 pub ders : (a b : List Ty) → length (a ++ b) ≡ length a + length b
 ders a b = length-append a b
@@ -123,13 +124,40 @@ spare_least (plain.index place e) = omega arith
 spare_least (plain.field place k) = omega arith
 
 -- place, read, operand and what follows
-update_sum : (a b c d : List Mid) (read rest left da de ds na ne : ℕ) → costs a + 62 * da + left ≤ 96 * na → costs b ≤ read → costs c + 62 * de + 64 ≤ 96 * ne → costs d ≤ rest
-    → read + rest ≤ 96 + left → ds ≡ da + de → costs (a ++ (b ++ (c ++ d))) + 62 * ds + 64 ≤ 96 * (1 + na + ne)
-update_sum a b c d read rest left da de ds na ne ha hb hc hd few sum =
+update_sum : (a b c d : List Mid) (read rest left da de ds sa se na ne : ℕ) → costs a + 62 * da + 96 * sa + left ≤ 96 * na → costs b ≤ read → costs c + 62 * de + 96 * se + 64 ≤ 96 * ne → costs d ≤ rest
+    → read + rest ≤ 96 + left → ds ≡ da + de → costs (a ++ (b ++ (c ++ d))) + 62 * ds + 96 * (sa + se) + 64 ≤ 96 * (1 + na + ne)
+update_sum a b c d read rest left da de ds sa se na ne ha hb hc hd few sum =
     let e1 = both a (b ++ (c ++ d)) in
     let e2 = both b (c ++ d) in
     let e3 = both c d in
     omega (arith, ha, hb, hc, hd, few, sum, e1, e2, e3)
+
+-- ---- small calls
+
+one_small : (es : Exprs) → small_one es ≤ 1
+one_small no_exprs = omega arith
+one_small (more_exprs e no_exprs) = one_at_most (is_byte e)
+one_small (more_exprs e (more_exprs f rest)) = omega arith
+
+module _ (p : Program) (types checks : List Ty) (spots : List Spot) where
+  -- arguments and the words that are pushed for them leave so many bytes
+  abbrev Leave : Exprs → (r l left : ℕ) → Type 0
+  Leave es r l left =
+      costs (args_code p types checks spots es r l) + 4 * length (passed_at p types checks spots es r) + 62 * length (exprs_derefs es) + 96 * exprs_small es + left ≤ 96 * exprs_nodes_of es
+
+  byte_leaves : (e : Expr) (r l : ℕ) → is_byte e ≡ true → Leave (more_exprs e no_exprs) r l 86
+  byte_leaves (plain.const U8 x) r l h = let s = set_most (is_made (low x)) in omega (arith, s)
+  byte_leaves e r l h = absurd (cc)
+
+  -- the argument of a small call leaves 86 bytes, of which its call needs 10
+  small_leaves : (es : Exprs) (r l : ℕ) → Leave es r l 0 → Leave es r l (86 * small_one es)
+  small_leaves no_exprs r l h = omega (arith, h)
+  small_leaves (more_exprs e no_exprs) r l h = by (is_byte e) (byte_leaves e r l)
+    where
+      by : (b : Bool) → (b ≡ true → Leave (more_exprs e no_exprs) r l 86) → Leave (more_exprs e no_exprs) r l (86 * (if b then 1 else 0))
+      by true g = g refl
+      by false g = h
+  small_leaves (more_exprs e (more_exprs f rest)) r l h = omega (arith, h)
 
 -- ---- expressions
 
@@ -141,7 +169,7 @@ module _ (p : Program) (types checks : List Ty) (spots : List Spot) (framed : Ar
   at place r l = place_code p types checks spots place r l
 
   mutual
-    place_light : (place : Place) (r l : ℕ) → IsPlace p types place → IsLight (place_nodes_of place) (length (place_derefs place)) (spare place) (at place r l)
+    place_light : (place : Place) (r l : ℕ) → IsPlace p types place → IsLight (place_nodes_of place) (length (place_derefs place)) (place_small place) (spare place) (at place r l)
     place_light (plain.object k) r l h = let s = set_most (is_made (object_address (slice_get p.objects k))) in record { le = omega (arith, s) }
     place_light (plain.local x) r l h = let s = (local_within (slice_get spots x) r).le in record { le = omega (arith, s) }
     place_light (plain.deref e t) r l h =
@@ -168,7 +196,7 @@ module _ (p : Program) (types checks : List Ty) (spots : List Spot) (framed : Ar
         let s = spare_least place in
         record { le = omega (arith, c, g, a, b, s) }
 
-    pub expr_light : (e : Expr) (ty : Ty) (r l : ℕ) → Has p types e ty → IsLight (expr_nodes_of e) (length (expr_derefs e)) 64 (code_of e r l)
+    pub expr_light : (e : Expr) (ty : Ty) (r l : ℕ) → Has p types e ty → IsLight (expr_nodes_of e) (length (expr_derefs e)) (small_calls e) 64 (code_of e r l)
     expr_light (plain.const t x) ty r l h = let g = (const_within t x r).le in record { le = omega (arith, g) }
     expr_light plain.null ty r l h = record { le = omega arith }
     expr_light (plain.read place pos) ty r l h =
@@ -310,13 +338,14 @@ module _ (p : Program) (types checks : List Ty) (spots : List Spot) (framed : Ar
         let g3 = (expr_light e second.0 (r + 4) lb second.1).le in
         let g4 = (tail_within kind of t s op gives_old r l good.0 good.1).le in
         let m = update_few p types checks spots framed place t good.0 in
-        record { le = update_sum (at place r (l + 5)) (fetch_code kind of (r + 2) r) (code_of e (r + 4) lb) tail (fetch_most kind of) (tail_most kind of t) (spare place) (length (place_derefs place)) (length (expr_derefs e)) _ (place_nodes_of place) (expr_nodes_of e) g1 g2 g3 g4 m d }
+        record { le = update_sum (at place r (l + 5)) (fetch_code kind of (r + 2) r) (code_of e (r + 4) lb) tail (fetch_most kind of) (tail_most kind of t) (spare place) (length (place_derefs place)) (length (expr_derefs e)) _ (place_small place) (small_calls e) (place_nodes_of place) (expr_nodes_of e) g1 g2 g3 g4 m d }
     expr_light (plain.call g arguments pos) ty r l h =
         let with = called_with (slice_get p.bodies g) (AllHave p types arguments) ty h in
         let c = both (args_code p types checks spots arguments r l) (Tick ∷ Call g (passed_at p types checks spots arguments r) (taken_at (result_of (slice_get p.bodies g)) r) ∷ Tick ∷ []) in
-        let f = args_light arguments with.0 r l with.1 in
+        let f = small_leaves p types checks spots arguments r l (args_light arguments with.0 r l with.1) in
+        let s = one_small arguments in
         let t = taken_few (result_of (slice_get p.bodies g)) r in
-        record { le = omega (arith, c, f, t) }
+        record { le = omega (arith, c, f, s, t) }
     expr_light (plain.post k) ty r l h = let g = (fit_within U8 r).le in record { le = omega (arith, g) }
     expr_light (plain.port_in port) ty r l h = record { le = omega arith }
     expr_light (plain.port_out port e) ty r l h =
@@ -331,8 +360,7 @@ module _ (p : Program) (types checks : List Ty) (spots : List Spot) (framed : Ar
         record { le = omega (arith, c, d, g1, g2) }
 
     -- with the words that are pushed for them
-    args_light : (es : Exprs) (ts : List Ty) (r l : ℕ) → AllHave p types es ts
-        → costs (args_code p types checks spots es r l) + 4 * length (passed_at p types checks spots es r) + 62 * length (exprs_derefs es) ≤ 96 * exprs_nodes_of es
+    args_light : (es : Exprs) (ts : List Ty) (r l : ℕ) → AllHave p types es ts → Leave p types checks spots es r l 0
     args_light no_exprs ts r l h = omega arith
     args_light (more_exprs e rest) [] r l h = absurd h
     args_light (more_exprs e rest) (t ∷ ts) r l h =

@@ -1,5 +1,6 @@
 pub mod Costs
 pub mod Updates
+pub mod Small
 pub mod Exprs
 pub mod Stmts
 pub mod Spots

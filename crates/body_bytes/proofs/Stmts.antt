@@ -1,6 +1,6 @@
--- The bytes of the code of statements, with 62 for each dereference, beside those of their nodes.
+-- The bytes of the code of statements, with 62 for each dereference and 96 for each small call, beside those of their nodes.
 use Rattle.std.proofs.Common.{ℕ, suc, ◌+◌, ◌*◌, ◌≤◌, Bool, true, false, List, [], ◌∷◌, ◌++◌, length, Option, Some, None, arith}
-use Rattle.std.specs.Prelude.{ℤ, pos, ◌==◌, slice_get, slice_index_or}
+use Rattle.std.specs.Prelude.{ℤ, ◌==◌, slice_get, slice_index_or}
 use Rattle.std.specs.Ordering.{int_eq}
 use Rattle.nm_base.specs.declared.int_type.IntType.{IntType}
 use Rattle.nm_base.specs.IntType.{wrapped}
@@ -27,15 +27,18 @@ use Rattle.lower_expr.specs.Pieces.{const_code, zero_code}
 use Rattle.lower_expr.specs.Code.{expr_code, is_void, labels, taken_at}
 use Rattle.lower_stmt.specs.Code.{Ways, back, case_code, cases_code, in_atomic, in_loop, in_switch, label_of, maybe_labels, nothing_code, returned_code, same_code, step_code, stmt_code, stmt_labels, stmts_code, switch_code, zero_local_code, zero_regs_code, WayOut, breaking, continuing, returning, exit_code, exits_code, leads, way_out}
 use Rattle.lower_stmt.specs.Bodies.{base_of, body_code, spots_of, ways_of}
-use Rattle.body_bytes.specs.Lean.{AreLeanStmts, IsLeanStmt, count_working, works}
-use Rattle.body_bytes.proofs.Costs.{IsWithin, bin_most, both, both_within, const_within, cost, costs, if_within, set_most, zero_within}
+use Rattle.lean_pace.specs.Lean.{AreLeanStmts, IsLeanStmt, count_working, works}
+use Rattle.body_bytes.proofs.Costs.{IsWithin, bin_most, bin_same, both, both_within, const_within, cost, costs, if_within, set_most, zero_within}
 use Rattle.body_bytes.proofs.Exprs.{ders, expr_light, taken_few}
+use Rattle.body_bytes.proofs.Small.{maybe_small, small_calls, stmt_small, stmts_small}
 use Rattle.body_bytes.proofs.Updates.{AreFramed}
 
 -- ---- pieces of statements
 
-nothing_within : (ty : Ty) (r : ℕ) → IsWithin 12 (nothing_code ty r)
-nothing_within ty r = if_within 12 (is_void ty) _ _ (record { le = omega arith }) (const_within (number_of ty) (pos 0) r)
+nothing_within : (ty : Ty) (r : ℕ) → IsWithin 8 (nothing_code ty r)
+nothing_within ty r =
+    if_within 8 (is_void ty) _ _ (record { le = omega arith })
+    (if_within 8 (is_wide (number_of ty)) _ _ (record { le = omega arith }) (record { le = omega arith }))
 
 same_within : (wide : Bool) (r l : ℕ) → IsWithin 52 (same_code wide r l)
 same_within true r l =
@@ -55,15 +58,15 @@ cases_light t (c ∷ cases) default r l =
     let g = cases_light t cases default r l in
     omega (arith, e, h, g)
 
-zero_regs_within : (wide : Bool) (regs : Regs) → IsWithin 60 (zero_regs_code wide regs)
+zero_regs_within : (wide : Bool) (regs : Regs) → IsWithin 54 (zero_regs_code wide regs)
 zero_regs_within true regs = record { le = omega arith }
 zero_regs_within false regs = record { le = omega arith }
 
-zero_local_within : (o : Option Spot) (ty : Ty) (size r l : ℕ) → IsWithin 60 (zero_local_code o ty size r l)
+zero_local_within : (o : Option Spot) (ty : Ty) (size r l : ℕ) → IsWithin 54 (zero_local_code o ty size r l)
 zero_local_within None ty size r l = record { le = omega arith }
 zero_local_within (Some (Values regs)) ty size r l = zero_regs_within (is_wide (number_of ty)) regs
 zero_local_within (Some (Frame o)) ty size r l =
-    let a = set_most (is_made o) in let b = set_most (is_made (o + size)) in let c = bin_most (r == r) in record { le = omega (arith, a, b, c) }
+    let a = set_most (is_made o) in let b = set_most (is_made (o + size)) in let c = bin_same r in record { le = omega (arith, a, b, c) }
 
 back_few : (o : Option ℕ) (ty : Ty) (r : ℕ) → cost (back o ty r) ≤ 14
 back_few None ty r = let t = taken_few ty r in omega (arith, t)
@@ -87,10 +90,10 @@ exits_within may w r l =
 -- ---- what a statement leaves of the bytes of its nodes
 
 abbrev pub stmt_spare : Stmt → ℕ
-stmt_spare (plain.clear x) = 36
+stmt_spare (plain.clear x) = 42
 stmt_spare _ = 64
 
-spare_low : (s : Stmt) → 36 ≤ stmt_spare s
+spare_low : (s : Stmt) → 42 ≤ stmt_spare s
 spare_low (plain.eval e) = omega arith
 spare_low (plain.block list) = omega arith
 spare_low (plain.branch test a b) = omega arith
@@ -122,20 +125,20 @@ module _ (p : Program) (types checks : List Ty) (spots : List Spot) (base : ℕ)
   abbrev expr_at : Expr → (r l : ℕ) → List Mid
   expr_at e r l = expr_code p types checks spots e r l
 
-  of_expr : (e : Expr) (ty : Ty) (r l : ℕ) → Has p types e ty → costs (expr_at e r l) + 62 * length (expr_derefs e) + 64 ≤ 96 * expr_nodes_of e
+  of_expr : (e : Expr) (ty : Ty) (r l : ℕ) → Has p types e ty → costs (expr_at e r l) + 62 * length (expr_derefs e) + 96 * small_calls e + 64 ≤ 96 * expr_nodes_of e
   of_expr e ty r l h = (expr_light p types checks spots framed e ty r l h).le
 
-  of_step : (e : Option Expr) (l : ℕ) → IsDone p types e → costs (step_code p types checks spots base e l) + 62 * length (maybe_derefs e) ≤ 96 * maybe_nodes_of e
+  of_step : (e : Option Expr) (l : ℕ) → IsDone p types e → costs (step_code p types checks spots base e l) + 62 * length (maybe_derefs e) + 96 * maybe_small e ≤ 96 * maybe_nodes_of e
   of_step None l h = omega arith
   of_step (Some e) l h = let g = of_expr e h.0 base l h.1 in omega (arith, g)
 
-  of_returned : (e : Option Expr) (w : Ways) (ty : Ty) (l : ℕ) → IsGiven p types e ty → costs (returned_code p types checks spots base e w l) + 62 * length (maybe_derefs e) ≤ 12 + 96 * maybe_nodes_of e
+  of_returned : (e : Option Expr) (w : Ways) (ty : Ty) (l : ℕ) → IsGiven p types e ty → costs (returned_code p types checks spots base e w l) + 62 * length (maybe_derefs e) + 96 * maybe_small e ≤ 8 + 96 * maybe_nodes_of e
   of_returned None w ty l h = let g = (nothing_within w.gives (base + 2)).le in omega (arith, g)
   of_returned (Some e) w ty l h = let g = of_expr e ty (base + 2) l h.1 in omega (arith, g)
 
   mutual
     pub stmt_light : (s : Stmt) (exits : Exits) (w : Ways) (l : ℕ) → IsStmt p types s exits → IsLeanStmt s
-        → costs (stmt_code p types checks spots base s w l) + 62 * length (stmt_derefs s) + stmt_spare s ≤ 96 * stmt_nodes_of s
+        → costs (stmt_code p types checks spots base s w l) + 62 * length (stmt_derefs s) + 96 * stmt_small s + stmt_spare s ≤ 96 * stmt_nodes_of s
     stmt_light (plain.eval e) exits w l h lean = let g = of_expr e h.0 base l h.1 in omega (arith, g)
     stmt_light (plain.block list) exits w l h lean = let g = stmts_light list exits w l h lean in omega (arith, g)
     stmt_light (plain.branch test a b) exits w l h lean =
@@ -224,7 +227,7 @@ module _ (p : Program) (types checks : List Ty) (spots : List Spot) (base : ℕ)
     stmt_light (plain.here arguments first count body) exits w l h lean = absurd lean
 
     stmts_light : (list : Stmts) (exits : Exits) (w : Ways) (l : ℕ) → AreStmts p types list exits → AreLeanStmts list
-        → costs (stmts_code p types checks spots base list w l) + 62 * length (stmts_derefs list) ≤ 96 * stmts_nodes_of list
+        → costs (stmts_code p types checks spots base list w l) + 62 * length (stmts_derefs list) + 96 * stmts_small list ≤ 96 * stmts_nodes_of list
     stmts_light no_stmts exits w l h lean = omega arith
     stmts_light (more_stmts s rest) exits w l h lean =
         let c = both (stmt_code p types checks spots base s w l) (stmts_code p types checks spots base rest w (l + stmt_labels s)) in
@@ -235,7 +238,7 @@ module _ (p : Program) (types checks : List Ty) (spots : List Spot) (base : ℕ)
 
     -- with room for a case at each statement that clears no local
     switch_light : (list : Stmts) (exits : Exits) (w : Ways) (k l : ℕ) → AreStmts p types list exits → AreLeanStmts list
-        → costs (switch_code p types checks spots base list w k l) + 62 * length (stmts_derefs list) + 64 * count_working list ≤ 96 * stmts_nodes_of list
+        → costs (switch_code p types checks spots base list w k l) + 62 * length (stmts_derefs list) + 96 * stmts_small list + 64 * count_working list ≤ 96 * stmts_nodes_of list
     switch_light no_stmts exits w k l h lean = omega arith
     switch_light (more_stmts s rest) exits w k l h lean =
         let c = both (stmt_code p types checks spots base s w l) (switch_code p types checks spots base rest w (suc k) (l + stmt_labels s)) in
@@ -245,9 +248,9 @@ module _ (p : Program) (types checks : List Ty) (spots : List Spot) (base : ℕ)
         let sp = spare_of_work s in
         omega (arith, c, d, g, f, sp)
 
--- a body's code leaves 10 bytes for what stands before it
+-- a body's code leaves 20 bytes, 10 of them for what stands before it
 pub body_light : (p : Program) (checks : List Ty) (b : Body) → AreFramed b.locals (spots_of p b) → IsStmt p b.locals b.code (by_return b.result) → IsLeanStmt b.code
-    → costs (body_code p checks b) + 62 * length (stmt_derefs b.code) + 10 ≤ 96 * stmt_nodes_of b.code
+    → costs (body_code p checks b) + 62 * length (stmt_derefs b.code) + 96 * stmt_small b.code + 20 ≤ 96 * stmt_nodes_of b.code
 body_light p checks b framed h lean =
     let c : List Mid = stmt_code p b.locals checks (spots_of p b) (base_of b) b.code (ways_of p b) 0 in
     let n : List Mid = nothing_code b.result (base_of b + 2) in

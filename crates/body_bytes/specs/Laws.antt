@@ -7,7 +7,7 @@ use Rattle.nesc_core.specs.WellFormed.{IsWellFormed}
 use Rattle.lower_stmt.specs.Bodies.{lowered}
 use Rattle.select_emitter.specs.Code.{all_code}
 use Rattle.code_bytes.specs.Bytes.{most_of}
-use Rattle.body_bytes.specs.Lean.{IsLean}
+use Rattle.lean_pace.specs.Lean.{IsLean}
 
 -- 96 bytes for each node, of which 62 for each dereference are left to its check
 abbrev pub BodiesAreSmall : Type 0

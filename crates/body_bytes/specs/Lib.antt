@@ -1,2 +1,1 @@
-pub mod Lean
 pub mod Laws

@@ -9,7 +9,7 @@ use Rattle.nesc_core.specs.WellFormed.{count_stmts}
 use Rattle.lower_pace.specs.Pace.{AreMeasuredStmts, IsMeasured, IsMeasuredStmt}
 use Rattle.well_formed.specs.Formed.{Each}
 use Rattle.well_formed.proofs.Each.{each_is}
-use Rattle.body_bytes.specs.Lean.{AreLeanStmts, IsLean, IsLeanStmt, count_working, works}
+use Rattle.lean_pace.specs.Lean.{AreLeanStmts, IsLean, IsLeanStmt, count_working, works}
 
 switch_is : (s : CoreStmt) (e : CoreExpr) (cases : List (Option ℤ × ℕ)) (list : List CoreStmt) → s ≡ Switch e cases list
     → stmt_of s ≡ switch (expr_of e) (map case_of cases) (stmts_of list)

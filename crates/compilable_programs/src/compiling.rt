@@ -4,7 +4,7 @@ ghost use Rattle.std.specs.Prelude.{◌≡◌, [], true};
 ghost use Rattle.nesc_core.specs.Calls.{HasNoCycle};
 ghost use Rattle.nesc_core.specs.View.{program_of};
 ghost use Rattle.nesc_core.specs.WellFormed.{IsWellFormed};
-ghost use Rattle.body_bytes.specs.Lean.{IsLean};
+ghost use Rattle.lean_pace.specs.Lean.{IsLean};
 ghost use Rattle.image_code.specs.Laws.{IsCompilable};
 
 use crate::measuring::is_lean;

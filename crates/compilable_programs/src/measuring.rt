@@ -3,8 +3,8 @@
 ghost use Rattle.std.specs.Prelude.{◌≡◌, ◌≤◌, length, true, if◌then◌else◌};
 ghost use Rattle.nesc_core.specs.View.{program_of, stmt_of, stmts_of};
 ghost use Rattle.lower_pace.specs.Pace.{IsMeasured};
-ghost use Rattle.body_bytes.specs.Lean as lean;
-ghost use Rattle.body_bytes.specs.Lean.{AreLeanStmts, IsLean, IsLeanStmt, count_working};
+ghost use Rattle.lean_pace.specs.Lean as lean;
+ghost use Rattle.lean_pace.specs.Lean.{AreLeanStmts, IsLean, IsLeanStmt, count_working};
 ghost use Rattle.well_formed.specs.Formed.{Each};
 
 use nesc_core::{CoreStmt, Program};

@@ -48,8 +48,8 @@ fn has_few_runs(checks: &[Check]) -> bool
         .all(|check| check.runs.as_slice().len() <= MOST_RUNS)
 }
 
-// The routines of operations and of the checks.
-fn add_routines(alloc: Global, code: &mut Vec<CodeFn>, middle: &MidCode) -> Result<(), NoMemory>
+/// The routines of operations and of the checks.
+pub fn add_routines(alloc: Global, code: &mut Vec<CodeFn>, middle: &MidCode) -> Result<(), NoMemory>
     ensures code { OnOk result (code.new.items ≡ code.old.items ++ routine_fns middle.now.checks) }
     ensures checks { OnOk result (CanBeChecked middle.now.checks) }
 {
@@ -72,8 +72,8 @@ fn add_pieces(alloc: Global, code: &mut Vec<CodeFn>, p: &Program) -> Result<(), 
     Ok(())
 }
 
-// The body of the first handler of a line.
-fn handler_of(handlers: &[(u8, u32)], line: u8) -> Option<u32>
+/// The body of the first handler of a line.
+pub fn handler_of(handlers: &[(u8, u32)], line: u8) -> Option<u32>
     ensures { result ≡ handler_in handlers.now line }
 {
     let mut rest = handlers;

@@ -23,7 +23,7 @@ fn objects_end(alloc: Global, p: &Program) -> Result<u32, NoMemory>
 }
 
 /// The bytes of a program's objects, an even number: the stack's end is even.
-pub(crate) fn data_bytes(alloc: Global, p: &Program) -> Result<u32, NoMemory>
+pub fn data_bytes(alloc: Global, p: &Program) -> Result<u32, NoMemory>
     requires { IsWellFormed (program_of p.now) }
     ensures { IfOk result (λ bytes. bytes ≡ data_bytes (program_of p.now)) }
 {

@@ -7,4 +7,7 @@ mod data;
 mod numbers;
 
 pub use building::build;
+pub use code::{add_routines, handler_of};
+pub use data::data_bytes;
 pub use msp_isa::Image;
+pub use numbers::{are_countable, lines_from, reset_place};

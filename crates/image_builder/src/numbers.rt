@@ -13,15 +13,15 @@ const PIECES: usize = 9;
 const MOST_ITEMS: usize = 1 << 28;
 
 /// Whether 32 bits count the bytes of each function, whatever its jumps take.
-pub(crate) fn are_countable(code: &[CodeFn]) -> bool
+pub fn are_countable(code: &[CodeFn]) -> bool
     ensures { result ≡ true → IsCountable code.now }
 {
     code.iter()
         .all(|function| function.items.as_slice().len() < MOST_ITEMS)
 }
 
-/// The place of the code of reset.
-pub(crate) fn reset_place(code: &[CodeFn]) -> u32
+/// The place of the code of reset, behind which those of the lines stand alone.
+pub fn reset_place(code: &[CodeFn]) -> u32
     requires some { 9 ≤ length code.now }
     requires few { length code.now < 2 ^ 32 }
     ensures { result + 9 ≡ length code.now }
@@ -30,7 +30,7 @@ pub(crate) fn reset_place(code: &[CodeFn]) -> u32
 }
 
 /// The places of the code of the lines, from the first on.
-pub(crate) fn lines_from(first: u32) -> [u32; 8]
+pub fn lines_from(first: u32) -> [u32; 8]
     requires { first + 8 < 2 ^ 32 }
     ensures { result ≡ range_with_len first 8 }
 {

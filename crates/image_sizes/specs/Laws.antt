@@ -7,7 +7,7 @@ use Rattle.lower_stmt.specs.Bodies.{lowered}
 use Rattle.msp_layout.specs.Bytes.{HasBytes}
 use Rattle.msp_layout.specs.Depth.{IsStack}
 use Rattle.msp_layout.specs.Laid.{PassesRam}
-use Rattle.body_bytes.specs.Lean.{IsLean}
+use Rattle.lean_pace.specs.Lean.{IsLean}
 use Rattle.program_image.specs.Order.{lines_of, reset_place}
 use Rattle.image_code.specs.Code.{code_of, data_bytes}
 use Rattle.image_code.specs.Laws.{CanBeChecked, IsCompilable}

@@ -1,4 +1,4 @@
--- What bodies access is data, and what contexts load and store lies where objects do.
+-- What bodies access is data, and what bodies without parameters load and store lies where objects do.
 use Rattle.std.proofs.Common.{◌≡◌, ⊎_elim, ℕ, ◌+◌, ◌≤◌, Bool, true, false, List, [], ◌∷◌, Option, Some, None, refl, sym, subst, arith}
 use Rattle.std.specs.Prelude.{slice_get}
 use Rattle.nm_base.specs.declared.action.Action.{Action}
@@ -6,7 +6,7 @@ use Rattle.nm_base.specs.declared.action.Action.TheVariants as action
 use Rattle.nm_base.specs.Behaviour.{play}
 use Rattle.nesc_core.specs.Plain.{Body, Program}
 use Rattle.nesc_core.specs.Calls.{HasNoCycle}
-use Rattle.nesc_core.specs.WellFormed.{BeginsContext, boots, handles, is_task, IsRoot, IsWellFormed}
+use Rattle.nesc_core.specs.WellFormed.{IsWellFormed}
 use Rattle.nesc_core.specs.Weights.{objects_end}
 use Rattle.mid_code.specs.declared.instr.Mid.{Mid}
 use Rattle.mid_code.specs.declared.instr.Mid.TheVariants.{Load, Store}
@@ -18,7 +18,6 @@ use Rattle.lower_reached.specs.Laws.{AccessesAreOfData, ActionsAreDone, Among, A
 use Rattle.msp_select.specs.Sound.{IsOfObjects, TouchesObjects}
 use Rattle.source_accesses.specs.Accesses.{AccessesAreOfObjects, AreOfObjects, IsInObject, IsOfObject, ObjectsLieInData}
 use Rattle.source_accesses.specs.Accesses as source
-use Rattle.source_accesses.proofs.Lists.{all_at}
 
 module _ (lie : ObjectsLieInData) (of : AccessesAreOfObjects) (p : Program) (formed : IsWellFormed p) where
   same_aligned : (w : Bool) (x : ℕ) → source.IsAligned w x → IsAligned w x
@@ -47,22 +46,6 @@ module _ (lie : ObjectsLieInData) (of : AccessesAreOfObjects) (p : Program) (for
 
   pub accesses_are_of_data : (f : ℕ) → AccessesAreOfData p f
   accesses_are_of_data f = record { each = λ told answers words turns. are_of_data (play (done p f told turns) answers).actions (of p formed f told turns answers) }
-
-  -- ---- contexts
-
-  record IsRootBody (f : ℕ) : Type 0 where
-    body : Body
-    is : slice_get p.bodies f ≡ Some body
-    none : body.params ≡ 0
-
-  root_body : (f : ℕ) (o : Option Body) → slice_get p.bodies f ≡ o → IsRoot o → IsRootBody f
-  root_body f None is h = absurd h
-  root_body f (Some b) is h = record { body = b; is = is; none = h.0 }
-
-  context_body : (f : ℕ) → BeginsContext p f → IsRootBody f
-  context_body f (boots e) = root_body f (slice_get p.bodies f) refl (subst (λ g. IsRoot (slice_get p.bodies g)) (sym e) formed.boot)
-  context_body f (is_task k e) = root_body f (slice_get p.bodies f) refl (all_at (λ g. IsRoot (slice_get p.bodies g)) p.tasks k f e formed.tasks)
-  context_body f (handles k line e) = root_body f (slice_get p.bodies f) refl (all_at (λ h. IsRoot (slice_get p.bodies h.1)) p.handlers k (line, f) e formed.handlers)
 
   -- ---- objects
 
@@ -98,10 +81,8 @@ module _ (lie : ObjectsLieInData) (of : AccessesAreOfObjects) (p : Program) (for
         by None at = tt
         by (Some i) at = by_one i at
 
-    pub touches : ActionsAreDone → HasNoCycle p → (f : ℕ) → BeginsContext p f → TouchesObjects (lowered p) f data_end
-    touches acts ranked f begins =
-        let root = context_body f begins in
-        record {
-          always = λ answers small n.
-              of_state (state_at (lowered p) f answers n) (λ a e. done_of_object f a (acts p ranked formed f root.body root.is root.none answers small n a e));
-        }
+    pub touches : ActionsAreDone → HasNoCycle p → (f : ℕ) (b : Body) → slice_get p.bodies f ≡ Some b → b.params ≡ 0 → TouchesObjects (lowered p) f data_end
+    touches acts ranked f b is none = record {
+      always = λ answers small n.
+          of_state (state_at (lowered p) f answers n) (λ a e. done_of_object f a (acts p ranked formed f b is none answers small n a e));
+    }

@@ -1,9 +1,9 @@
 -- What lowered code of a well-formed program keeps of the rules of middle code (own).
 use Rattle.std.specs.Prelude.{◌≡◌, ℕ, ◌<◌, ◌≤◌, length, Some, slice_get}
-use Rattle.nesc_core.specs.Plain.{Program}
+use Rattle.nesc_core.specs.Plain.{Body, Program}
 use Rattle.nesc_core.specs.Calls.{HasNoCycle}
 use Rattle.nesc_core.specs.Weights.{objects_end}
-use Rattle.nesc_core.specs.WellFormed.{BeginsContext, IsWellFormed}
+use Rattle.nesc_core.specs.WellFormed.{IsWellFormed}
 use Rattle.mid_code.specs.declared.instr.Mid.TheVariants.{Post}
 use Rattle.mid_code.specs.Machine.{fn_of}
 use Rattle.mid_code.specs.Reached.{KeepsForm}
@@ -27,8 +27,8 @@ abbrev pub PostsNameTasks : Type 0
 PostsNameTasks =
     (p : Program) → IsWellFormed p → (f at k v : ℕ) → slice_get (fn_of (lowered p) f).code at ≡ Some (Post k v) → k < length p.tasks
 
--- what a context loads and stores lies where objects do
+-- what a body without parameters loads and stores lies where objects do
 abbrev pub ObjectsAreTouched : Type 0
 ObjectsAreTouched =
-    (p : Program) → HasNoCycle p → IsWellFormed p → (f : ℕ) → BeginsContext p f → (data_end : ℕ) → objects_end p ≤ data_end →
+    (p : Program) → HasNoCycle p → IsWellFormed p → (f : ℕ) (b : Body) → slice_get p.bodies f ≡ Some b → b.params ≡ 0 → (data_end : ℕ) → objects_end p ≤ data_end →
     TouchesObjects (lowered p) f data_end

@@ -34,7 +34,7 @@ pub fn posts_name_tasks()
     ensures { PostsNameTasks }
 {}
 
-/// What a context of a well-formed program loads and stores ends where its objects do or before.
+/// What a body without parameters of a well-formed program loads and stores ends where its objects do or before.
 pub fn objects_are_touched()
     ensures { ObjectsAreTouched }
 {

@@ -7,3 +7,5 @@ pub mod SlotBySlot
 pub mod Told
 pub mod Writing
 pub mod Gathered
+pub mod Counting
+pub mod Fields

@@ -113,6 +113,23 @@ module _ (rows : List Due) where
       ap (λ l. in_slot number (drop (length before) l)) (takes_slot m running f on).shown
       ∙ ap (in_slot number) (drop_front before (step_events m))
 
+-- the mote behind its rows and its step, and the events of the step
+pub record IsStepped (rows : List Due) (m m2 : Held) (events : List Shown) : Type 0 where
+  pub same : m2 ≡ stepped_after rows m
+  pub shows : arrivals rows ++ events ≡ step_events rows m
+
+pub is_stepped : (rows : List Due) (m m1 m2 : Held) (stepped : Stepped) (accesses : List Access)
+    → m1 ≡ all_given m rows → m2 ≡ after_step m1 (step_of m1) → stepped ≡ (step_of m1).stepped → accesses ≡ m2.joined.bus.accesses
+    → IsStepped rows m m2 (events_of accesses ++ shown_behind stepped)
+is_stepped rows m m1 m2 stepped accesses given after was kept =
+    let same : m2 ≡ stepped_after rows m = after ∙ ap (λ (x : Held). after_step x (step_of x)) given in
+    let s = step_of (all_given m rows) in
+    record {
+      same = same;
+      shows = ap (λ (a : List Access). arrivals rows ++ (events_of a ++ shown_behind stepped)) (kept ∙ ap (λ (x : Held). x.joined.bus.accesses) same)
+          ∙ ap (λ (x : Stepped). arrivals rows ++ (events_of s.after.bus.accesses ++ shown_behind x)) (was ∙ ap (λ (x : Held). (step_of x).stepped) given);
+    }
+
 -- the mote after a slot, and the lines of its events
 pub record SlotDone (number : ℕ) (rows : List Due) (m : Held) (running : Running Outside) (events : List Shown) : Type 0 where
   pub follows : Follows m (next rows running)
@@ -122,13 +139,10 @@ pub slot_done : (number : ℕ) (rows : List Due) (m m1 m2 : Held) (stepped : Ste
     → m1 ≡ all_given m rows → m2 ≡ after_step m1 (step_of m1) → stepped ≡ (step_of m1).stepped → accesses ≡ m2.joined.bus.accesses
     → Follows m running → m.stopped ≡ false → SlotDone number rows m2 running (events_of accesses ++ shown_behind stepped)
 slot_done number rows m m1 m2 stepped accesses running given after was kept f on =
-    let same : m2 ≡ stepped_after rows m = after ∙ ap (λ (x : Held). after_step x (step_of x)) given in
-    let s = step_of (all_given m rows) in
-    let events : events_of accesses ++ shown_behind stepped ≡ events_of s.after.bus.accesses ++ shown_behind s.stepped =
-    ap (λ (a : List Access). events_of a ++ shown_behind stepped) (kept ∙ ap (λ (x : Held). x.joined.bus.accesses) same)
-    ∙ ap (λ (x : Stepped). events_of s.after.bus.accesses ++ shown_behind x) (was ∙ ap (λ (x : Held). (step_of x).stepped) given) in
+    let done = is_stepped rows m m1 m2 stepped accesses given after was kept in
     record {
-      follows = subst (λ (x : Held). Follows x (next rows running)) (sym same) (takes_slot rows m running f on).follows;
-      text = ap (λ (l : List Shown). lines_of number (arrivals rows) ++ lines_of number l) events
-          ∙ sym (ap trace_lines (shows_slot rows number m running f on) ∙ lines-append number (arrivals rows) (events_of s.after.bus.accesses ++ shown_behind s.stepped));
+      follows = subst (λ (x : Held). Follows x (next rows running)) (sym done.same) (takes_slot rows m running f on).follows;
+      text = sym (lines-append number (arrivals rows) (events_of accesses ++ shown_behind stepped))
+          ∙ ap (lines_of number) done.shows
+          ∙ sym (ap trace_lines (shows_slot rows number m running f on));
     }

@@ -3,6 +3,8 @@
 
 mod mote;
 mod stepped;
+mod totals;
 mod trace_line;
 
 pub use mote::{AsMote, BoardMote, MoteOf};
+pub use totals::{Totals, summary};

@@ -30,11 +30,11 @@ use std::alloc::Global;
 #[derive(Drop)]
 pub struct MoteOf<D> {
     cpu: Cpu,
-    bus: BusOf<D>,
+    pub(crate) bus: BusOf<D>,
     slots: u32,
     ran: u32,
     least: u16,
-    stopped: bool,
+    pub(crate) stopped: bool,
 }
 
 /// A mote with the board of boxed devices.
@@ -69,8 +69,8 @@ impl<D: Device> MoteOf<D> {
         })
     }
 
-    // What comes from outside goes to the board.
-    fn give(&mut self, given: Given)
+    /// What comes from outside goes to the board.
+    pub(crate) fn give(&mut self, given: Given)
         ensures { ⟦<MoteOf<D> as AsMote>⟧.held self.new ≡ given_to (⟦<MoteOf<D> as AsMote>⟧.held self.old) given }
     {
         let board = self.bus.board_mut();
@@ -82,8 +82,8 @@ impl<D: Device> MoteOf<D> {
         }
     }
 
-    // One step, of which the accesses are kept.
-    fn step(&mut self) -> Stepped
+    /// One step, of which the accesses are kept.
+    pub(crate) fn step(&mut self) -> Stepped
         requires slots { self.old.slots + 1 < 2 ^ 32 }
         requires ran { self.old.ran + 1 < 2 ^ 32 }
         ensures held { ⟦<MoteOf<D> as AsMote>⟧.held self.new ≡ after_step (⟦<MoteOf<D> as AsMote>⟧.held self.old) (step_of (⟦<MoteOf<D> as AsMote>⟧.held self.old)) }
@@ -100,7 +100,8 @@ impl<D: Device> MoteOf<D> {
         stepped
     }
 
-    fn end(&self) -> End
+    /// How the run ended.
+    pub(crate) fn end(&self) -> End
         ensures { result ≡ record { slots = self.now.slots; ran = self.now.ran; least = self.now.least; off = cpuoff self.now.cpu } }
     {
         End {
@@ -219,8 +220,8 @@ impl<D: Device> MoteOf<D> {
     }
 }
 
-// How many of the first rows are those of a slot.
-fn count_due(rows: &[Due], slot: u32) -> usize
+/// How many of the first rows are those of a slot.
+pub(crate) fn count_due(rows: &[Due], slot: u32) -> usize
     ensures count { result ≡ due_count rows.now slot }
     ensures within { result ≤ length rows.now }
 {

@@ -4,6 +4,7 @@ use Rattle.std.specs.declared.result.Result.{Result}
 use Rattle.std.specs.declared.result.Result.TheVariants.{Ok, Err}
 use Rattle.std.specs.Result.{IsErrAnd}
 use Rattle.std.specs.Prelude.{IfErr}
+use Rattle.std.proofs.lemmas.Fmt.{decimal_injective}
 use Rattle.nm_base.specs.declared.fault.Fault.{Fault}
 use Rattle.nm_base.specs.declared.fault.Fault.TheVariants as fault
 use Rattle.nm_base.specs.declared.limit.Limit.{Limit as LimitOf}
@@ -30,11 +31,13 @@ use Rattle.nm_driver.specs.declared.answer.Answer.{Answer}
 use Rattle.nm_driver.specs.declared.answer.Stop.{Stop}
 use Rattle.nm_driver.specs.declared.answer.Stop.TheVariants as stop
 use Rattle.nm_words.specs.declared.mode.Mode.{Mode}
-use Rattle.nm_words.specs.declared.mode.Mode.TheVariants.{Check, Build, Run, Mote}
+use Rattle.nm_words.specs.declared.mode.Mode.TheVariants.{Check, Build, Run, Mote, Gen}
 use Rattle.nm_driver.specs.declared.status.Status.{Status}
 use Rattle.nm_driver.specs.declared.status.Status.TheVariants.{Done, Refused, Usage, Missing, ReadFault, WriteFault, BadSchedule, Limit, TooLarge, NoMemory, BadImage}
 use Rattle.nm_driver.specs.Lines.{answer_line, plain_line}
-use Rattle.nm_driver.specs.Applications.{CanBeBuilt, HasApplication, HasSmallWeights, IsAccepted, IsCause, IsOfSource, IsRefused, IsRefusedIn, IsUnbuilt, IsWithinWeights}
+use Rattle.program_builder.specs.Built.{IsCause}
+use Rattle.nm_driver.specs.Applications.{CanBeBuilt, HasApplication, HasSmallWeights, IsAccepted, IsRefused, IsRefusedIn, IsUnbuilt, IsWithinWeights}
+use Rattle.nm_driver.specs.Generated.{IsModules, IsSourceOf, generated_app, told_of}
 use Rattle.nm_driver.specs.NamedFiles.{FileStops, HasImage, HasRows, HasSchedule, HasSubject, ImageStops, IsRead, IsTooLarge, RowsStop, ScheduleStops, SourceStops, SubjectStops, status_of}
 use Rattle.nm_driver.specs.Output.{HasCause, HasText, IsDone, IsDue, IsReady, Prints, Stops}
 use Rattle.nm_driver.specs.Prepared.{IfSays, IsLined, IsNoMemory, SaysOf, SaysOfSource, SaysOfSubject, fault_detail, fault_file, line_of}
@@ -72,45 +75,51 @@ module _ (told : Option Told) (words : List (List ℕ)) (asked : Requested) (are
   lined_due NoMemory text lined line stops = absurd lined
   lined_due (BadImage n) text lined line stops = record { is_text = line; cause = stops; usage = λ e. absurd (let k : BadImage n ≡ Usage = e in cc); not_usage = λ none. absurd (none (request asked, are)) }
 
-  fault_due : (e : Fault) (known : Option Known) (program : Option Program) (text : List ℕ) → IsOfSource asked.mode → (IsNoMemory e → ⊥)
-      → text ≡ answer_line (fault_file known asked.subject e) (fault_detail program e) (status_of e)
-      → ((files : Told) → told ≡ Some files → IsRefused files asked.mode asked.subject e known program) → ((files : Told) → told ≡ Some files → Stops files words (status_of e)) → IsDue told words board (status_of e) text
-  fault_due (fault.Refused r) known program text runs found line source stops = record {
-    is_text = record { asked = asked; words_are = are; of_source = runs; known = known; program = program; line = line; source = source };
+  fault_due : (e : Fault) (known : Option Known) (program : Option Program) (text : List ℕ) (texts : Option Told) (app : List ℕ) → IsSourceOf told asked.mode asked.subject texts app → (IsNoMemory e → ⊥)
+      → text ≡ answer_line (fault_file known app e) (fault_detail program e) (status_of e)
+      → ((files : Told) → texts ≡ Some files → IsRefused files asked.mode app e known program) → ((files : Told) → told ≡ Some files → Stops files words (status_of e)) → IsDue told words board (status_of e) text
+  fault_due (fault.Refused r) known program text texts app runs found line source stops = record {
+    is_text = record { asked = asked; words_are = are; texts = texts; app = app; of_source = runs; known = known; program = program; line = line; source = source };
     cause = stops;
     usage = λ e. absurd (let k : Refused r ≡ Usage = e in cc);
     not_usage = λ none. absurd (none (request asked, are));
   }
-  fault_due (fault.Missing name) known program text runs found line source stops = lined_due (Missing name) text tt line stops
-  fault_due fault.ReadFault known program text runs found line source stops = lined_due ReadFault text tt line stops
-  fault_due (fault.Limit l) known program text runs found line source stops = lined_due (Limit l) text tt line stops
-  fault_due (fault.TooLarge room n) known program text runs found line source stops = record {
+  fault_due (fault.Missing name) known program text texts app runs found line source stops = lined_due (Missing name) text tt line stops
+  fault_due fault.ReadFault known program text texts app runs found line source stops = lined_due ReadFault text tt line stops
+  fault_due (fault.Limit l) known program text texts app runs found line source stops = lined_due (Limit l) text tt line stops
+  fault_due (fault.TooLarge room n) known program text texts app runs found line source stops = record {
     is_text = line;
     cause = stops;
     usage = λ e. absurd (let k : TooLarge room n ≡ Usage = e in cc);
     not_usage = λ none. absurd (none (request asked, are));
   }
-  fault_due fault.NoMemory known program text runs found line source stops = absurd (found tt)
+  fault_due fault.NoMemory known program text texts app runs found line source stops = absurd (found tt)
 
   stops_at : (files : Told) (status : Status) → SubjectStops files asked.mode asked.subject status → Stops files words status
   stops_at files status h = record { asked = asked; words_are = are; cause = inl h }
 
   -- an answer about the files of an application
-  source_due : (m : Mode) → asked.mode ≡ m → IsOfSource m → ((files : Told) (status : Status) → SourceStops files m asked.subject status → SubjectStops files m asked.subject status)
-      → (answer : Answer) → SaysOfSource told m asked.subject answer → IsDue told words board answer.status (line_of answer)
-  source_due m is of_source stops answer says =
+  source_due : (m : Mode) → asked.mode ≡ m → (texts : Option Told) (app : List ℕ) → IsSourceOf told m asked.subject texts app
+      → ((files : Told) → told ≡ Some files → (from : Told) × (texts ≡ Some from) × ((status : Status) → SourceStops from m app status → SubjectStops files m asked.subject status))
+      → (answer : Answer) → SaysOfSource texts m app answer → IsDue told words board answer.status (line_of answer)
+  source_due m is texts app of_source given answer says =
       let status = status_of says.cause in
       subst (λ s. IsDue told words board s (line_of answer)) (sym says.says.is_status)
-      (fault_due says.cause says.known says.program (line_of answer) (subst IsOfSource (sym is) of_source) says.says.found says.says.is_line
-      (λ files h. subst (λ x. IsRefused files x asked.subject says.cause says.known says.program) (sym is) (says.source files h))
-      (λ files h. stops_at files status (subst (λ x. SubjectStops files x asked.subject status) (sym is)
-      (stops files status (record { fault = says.cause; known = says.known; program = says.program; refused = says.source files h; answer = refl })))))
+      (fault_due says.cause says.known says.program (line_of answer) texts app (subst (λ x. IsSourceOf told x asked.subject texts app) (sym is) of_source) says.says.found says.says.is_line
+      (λ files h. subst (λ x. IsRefused files x app says.cause says.known says.program) (sym is) (says.source files h))
+      (λ files h.
+      let g = given files h in
+      stops_at files status (subst (λ x. SubjectStops files x asked.subject status) (sym is)
+      (g.2 status (record { fault = says.cause; known = says.known; program = says.program; refused = says.source g.0 g.1; answer = refl })))))
 
   -- an answer about what is asked for
   pub subject_due : (mode : Mode) → asked.mode ≡ mode → (answer : Answer) → SaysOfSubject told mode asked.subject answer → IsDue told words board answer.status (line_of answer)
-  subject_due Check is answer says = source_due Check is tt (λ files status h. h) answer says
-  subject_due Build is answer says = source_due Build is tt (λ files status h. h) answer says
-  subject_due Run is answer says = source_due Run is tt (λ files status h. h) answer says
+  subject_due Check is answer says = source_due Check is told asked.subject (refl, refl) (λ files h. (files, h, λ status s. s)) answer says
+  subject_due Build is answer says = source_due Build is told asked.subject (refl, refl) (λ files h. (files, h, λ status s. s)) answer says
+  subject_due Run is answer says = source_due Run is told asked.subject (refl, refl) (λ files h. (files, h, λ status s. s)) answer says
+  subject_due Gen is answer says =
+      let n = says.0 in
+      source_due Gen is (Some (told_of n)) generated_app (n, says.1, refl, refl) (λ files h. (told_of n, refl, λ status s. (n, says.1, s))) answer says.2
   subject_due Mote runs answer says =
       lined_due answer.status (line_of answer) says.lined says.line
       (λ files h. stops_at files answer.status (subst (λ m. SubjectStops files m asked.subject answer.status) (sym runs) (says.cause files h)))
@@ -130,6 +139,9 @@ has_subject told files h Build name board rows n text prints =
 has_subject told files h Run name board rows n text prints =
     let a = prints.0 in record { program = a.program; has = a.has files h; accepted = a.accepted; taken = λ builds. inl prints.1.builds }
 has_subject told files h Mote name board rows n text prints = (prints.0, prints.2 files h)
+has_subject told files h Gen name board rows budget text prints =
+    let n = prints.0 in let a = prints.2 in
+    (n, prints.1, record { program = a.program; has = a.has (told_of n) refl; accepted = a.accepted; taken = λ builds. inl prints.3.builds })
 
 -- ---- where all is good
 
@@ -249,10 +261,6 @@ small_weights p small Code need cause within =
 small_weights p small Ram need cause within = let pass = (within small.stack small.is_stack).pass in let fits = small.memory in omega (arith, pass, fits)
 
 module _ (p : Program) (can : CanBeBuilt p ⊎ HasSmallWeights p) where
-  no_tasks : CanBeBuilt p ⊎ HasSmallWeights p → p.tasks ≡ []
-  no_tasks (inl built) = built.no_tasks
-  no_tasks (inr small) = small.no_tasks
-
   has_room : CanBeBuilt p ⊎ HasSmallWeights p → (room : Room) (need : ℕ) → IsCause p (fault.TooLarge room need) → IsWithinWeights p (fault.TooLarge room need) → ⊥
   has_room (inl built) room need cause within = built.has_room room need cause
   has_room (inr small) room need cause within = small_weights p small room need cause within
@@ -266,8 +274,7 @@ module _ (p : Program) (can : CanBeBuilt p ⊎ HasSmallWeights p) where
   has_no_cause fault.NoMemory answers h w = answers
 
   not_unbuilt : (e : Fault) → IsAnswer e → IsUnbuilt p e → ⊥
-  not_unbuilt e answers (inl (tasks, is)) = tasks (no_tasks can)
-  not_unbuilt e answers (inr h) = has_no_cause e answers h.1 h.2
+  not_unbuilt e answers h = has_no_cause e answers h.0 h.1
 
 module _ (one : OneApplication) (told : Told) (mode : Mode) (app : List ℕ) (has : HasApplication told mode app) where
   not_refused_in : (e : Fault) → IsAnswer e → IsRefusedIn mode has.program e → ⊥
@@ -292,12 +299,22 @@ module _ (one : OneApplication) (told : Told) (mode : Mode) (app : List ℕ) (ha
   not_source : (s : Status) → SourceStops told mode app s → (s ≡ ReadFault) ⊎ (s ≡ NoMemory)
   not_source s h = subst (λ x. (x ≡ ReadFault) ⊎ (x ≡ NoMemory)) (sym h.answer) (not_by_fault h.fault h.known h.program h.refused)
 
+-- a word is one number of modules
+same_modules : (word : List ℕ) (m n : ℕ) → IsModules word m → IsModules word n → m ≡ n
+same_modules word m n i j =
+    let few : m ≤ 60 = i.at_most in
+    let few' : n ≤ 60 = j.at_most in
+    decimal_injective m n (omega arith) (omega arith) (sym i.spelled ∙ j.spelled)
+
 module _ (one : OneApplication) (told : Told) where
   not_subject : (mode : Mode) (name : List ℕ) (s : Status) → HasSubject told mode name → SubjectStops told mode name s → (s ≡ ReadFault) ⊎ (s ≡ NoMemory)
   not_subject Check name s has h = not_source one told Check name has s h
   not_subject Build name s has h = not_source one told Build name has s h
   not_subject Run name s has h = not_source one told Run name has s h
   not_subject Mote name s has h = inl (not_image told name has.0 s has.1 h)
+  not_subject Gen name s has h =
+      let same = same_modules name h.0 has.0 h.1 has.1 in
+      not_source one (told_of has.0) Gen generated_app has.2 s (subst (λ n. SourceStops (told_of n) Gen generated_app s) same h.2)
 
   -- good files stop no request
   unstopped : (words : List (List ℕ)) (s : Status) (m : Stops told words s) (asked : Asked) → request m.asked ≡ asked → IsReady told asked → (s ≡ ReadFault) ⊎ (s ≡ NoMemory)

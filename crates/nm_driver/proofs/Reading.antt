@@ -21,7 +21,8 @@ use Rattle.nesc_programs.specs.declared.application.Application.{Application}
 use Rattle.nesc_programs.specs.Programs.{IsProgram, IsStopped}
 use Rattle.wire_reading.specs.Order.{IsRefusal}
 use Rattle.nm_words.specs.declared.mode.Mode.{Mode}
-use Rattle.nm_driver.specs.Applications.{IsCause, IsRefusedIn, IsUnbuilt, later}
+use Rattle.program_builder.specs.Built.{IsCause}
+use Rattle.nm_driver.specs.Applications.{IsRefusedIn, IsUnbuilt}
 use Rattle.nm_driver.specs.Output.{IfMissing}
 use Rattle.nm_driver.specs.Prepared.{IfSays, IsNoMemory, Reads, SaysFault, SaysOfProgram, SaysOfSource}
 use Rattle.nm_driver.proofs.Causes.{if_says}
@@ -87,8 +88,7 @@ module _ (p : Program) where
   cause_unread fault.NoMemory h = tt
 
   image_unread : (e : Fault) → IsUnbuilt p e → IsUnread e
-  image_unread e (inl h) = subst IsUnread (sym h.1) tt
-  image_unread e (inr h) = cause_unread e h.1
+  image_unread e h = cause_unread e h.0
 
   unread : (m : Mode) (e : Fault) → IsRefusedIn m p e → IsUnread e
   unread m e (inl h) = calls_unread e h

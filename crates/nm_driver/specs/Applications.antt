@@ -1,9 +1,6 @@
 -- Which applications a mode takes, and why one is refused: behind its wired program come the graph of its calls, its race report, and in modes
 -- that build its image (own: the order of the phases).
-use Rattle.std.specs.Prelude.{◌≡◌, ◌+◌, ◌≤◌, ◌⊎◌, ℕ, List, [], length, Option, Some, None}
-use Rattle.nm_base.specs.declared.refusal.Left.TheVariants.{Later}
-use Rattle.nm_base.specs.declared.refusal.Refusal.{Refusal}
-use Rattle.nm_base.specs.declared.refusal.Refusal.TheVariants.{LeftOut}
+use Rattle.std.specs.Prelude.{◌+◌, ◌≤◌, ◌⊎◌, ℕ, List, length, Option, Some, None}
 use Rattle.nm_base.specs.declared.fault.Fault.{Fault}
 use Rattle.nm_base.specs.declared.fault.Fault.TheVariants as fault
 use Rattle.nm_base.specs.declared.limit.Room.{Room}
@@ -17,14 +14,12 @@ use Rattle.nesc_core.specs.Weights.{code_weight, data_weight}
 use Rattle.call_graph.specs.Refusals.{HasNoSyncPath, IsDue}
 use Rattle.race_checker.specs.Computed.{report_of}
 use Rattle.race_report.specs.Limit.{IsWhy, most}
-use Rattle.msp_layout.specs.Laid.{HasCause}
-use Rattle.program_image.specs.Order.{lines_of, reset_place}
-use Rattle.image_code.specs.Code.{code_of, data_bytes}
 use Rattle.image_sizes.specs.Laws.{IsNeedOfWeights}
 use Rattle.image_sizes.specs.StackWeight.{IsStackWeight}
+use Rattle.program_builder.specs.Built.{IsCause}
 use Rattle.nesc_programs.specs.Programs.{HasProgram, IsProgram, IsStopped}
 use Rattle.nm_words.specs.declared.mode.Mode.{Mode}
-use Rattle.nm_words.specs.declared.mode.Mode.TheVariants.{Check, Build, Run, Mote}
+use Rattle.nm_words.specs.declared.mode.Mode.TheVariants.{Build, Run, Gen}
 
 -- ---- programs
 
@@ -34,18 +29,12 @@ pub record IsAccepted (p : Program) : Type 0 where
   pub no_sync : HasNoSyncPath p
   pub few : length (report_of p) ≤ most
 
--- the image's causes of an answer: its code, or else its data and stack, are more than the mote's memory holds, or memory is wanting
-abbrev pub IsCause : Program → Fault → Type 0
-IsCause p e = HasCause (code_of p) (lines_of p) (reset_place p) (data_bytes p) e
-
--- it has an image: no task, which no image has yet, and room for it
+-- the mote has room for its image
 pub record CanBeBuilt (p : Program) : Type 0 where
-  pub no_tasks : p.tasks ≡ []
   pub has_room : (room : Room) (need : ℕ) → IsCause p (fault.TooLarge room need) → ⊥
 
--- no task, and weights of code, data and stack that fit the mote
+-- weights of code, data and stack that fit the mote
 pub record HasSmallWeights (p : Program) : Type 0 where
-  pub no_tasks : p.tasks ≡ []
   pub code : code_weight p ≤ CODE_BYTES
   pub stack : ℕ
   pub is_stack : IsStackWeight p stack
@@ -59,15 +48,11 @@ IsWithinWeights p _ = Unit {0}
 
 -- ---- modes
 
--- a mode that reads an application
-abbrev pub IsOfSource : Mode → Type 0
-IsOfSource Mote = ⊥
-IsOfSource _ = Unit {0}
-
 -- a mode that makes an image of it
 abbrev pub Builds : Mode → Type 0
 Builds Build = Unit {0}
 Builds Run = Unit {0}
+Builds Gen = Unit {0}
 Builds _ = ⊥
 
 -- where there is room for an image, or the weights fit
@@ -83,17 +68,9 @@ pub record HasApplication (told : Told) (mode : Mode) (app : List ℕ) : Type 0 
 
 -- ---- refusals
 
--- the application's file: files have numbers in the order of reading, and the prelude has 0
-abbrev pub application : ℕ
-application = 1
-
--- tasks are not built yet, at the beginning of the application's file
-abbrev pub later : Refusal
-later = LeftOut (record { file = application; line = 1; col = 1 }) Later
-
 -- why there is no image
 abbrev pub IsUnbuilt : Program → Fault → Type 0
-IsUnbuilt p e = ((p.tasks ≡ [] → ⊥) × (e ≡ fault.Refused later)) ⊎ ((p.tasks ≡ []) × IsCause p e × IsWithinWeights p e)
+IsUnbuilt p e = IsCause p e × IsWithinWeights p e
 
 -- why a mode does not take a program: its calls, its report, its image
 abbrev pub IsRefusedIn : Mode → Program → Fault → Type 0

@@ -14,12 +14,13 @@ use Rattle.mote_bus.specs.Mote.{mote}
 use Rattle.preempt_core.specs.Allowed.{Allowed}
 use Rattle.mote_text.specs.ImageLines.{image_of}
 use Rattle.mote_text.specs.ImageText.{image_text}
-use Rattle.nm_words.specs.declared.mode.Mode.TheVariants.{Run}
+use Rattle.nm_words.specs.declared.mode.Mode.TheVariants.{Run, Gen}
 use Rattle.nm_driver.specs.declared.status.Status.TheVariants.{Done}
 use Rattle.nm_words.specs.Asked.{AreWords, Requested, request}
 use Rattle.nesc_programs.specs.Programs.{HasNames, HasProgram}
 use Rattle.nm_driver.specs.NamedFiles.{HasSchedule}
-use Rattle.nm_driver.specs.RunText.{IsReportText, run_text}
+use Rattle.nm_driver.specs.Generated.{IsModules, generated_app, told_of}
+use Rattle.nm_driver.specs.RunText.{IsReportText, gen_text, run_text}
 use Rattle.nm_driver.specs.Output.{IsAnswer}
 
 -- the text has the report of the application's wired program, an image of it with data and stack, and the image's run on a board with the
@@ -54,3 +55,32 @@ abbrev pub PrintedImageRunsItsSource : Type 0
 PrintedImageRunsItsSource = (words : List (List ℕ)) (asked : Requested) (board : BoardState) (seen seen' : FilesSeen) (out out' : SinkSeen) (files : Told) (before : List ℕ)
     → AreWords words (request asked) → asked.mode ≡ Run → seen.texts ≡ Some files → out.taken ≡ Some before → IsAnswer words board Done seen seen' out out'
     → (text : List ℕ) × (out'.taken ≡ Some (before ++ text)) × RunsItsSource files asked board text
+
+-- ---- an application that is made
+
+-- the text has the report of the wired program of the files of n modules, an image of it with data and stack, and the totals of the image's run
+-- on a board
+pub record RunsGenerated (n : ℕ) (board : BoardState) (text : List ℕ) : Type 0 where
+  pub program : Program
+  pub has : HasProgram (told_of n) generated_app program
+  pub names : ℕ → Option (List ℕ)
+  pub named : HasNames (told_of n) generated_app names
+  pub report : List ℕ
+  pub reports : IsReportText names program report
+  pub code : List ℕ
+  pub vectors : List ℕ
+  pub ram : ℕ
+  pub stack : ℕ
+  pub printed : text ≡ gen_text report code vectors ram stack board n
+  pub reads_back : image_of (image_text code vectors) ≡ Ok (image_map code vectors)
+  -- as of an application of the outside
+  pub allowed : (b : BoardState) (rows : List Due) (n : ℕ) → IsWordBoard b → AreWordRows IsWordGiven rows →
+      Allowed (source_of program) (pace_of_program program) b (mote (image_map code vectors) b rows) n
+  pub bounded : (b : BoardState) (rows : List Due) (n : ℕ) → IsWordBoard b → AreWordRows IsWordGiven rows → RAM_END ≤ (mote (image_map code vectors) b rows n).least + stack
+  pub fits : ram + stack ≤ RAM_BYTES
+
+-- Where the top call is done with the application of so many modules, on whatever files, and the sink tells what it has, it has taken such a text
+abbrev pub GeneratedImageRunsItsSource : Type 0
+GeneratedImageRunsItsSource = (words : List (List ℕ)) (asked : Requested) (board : BoardState) (seen seen' : FilesSeen) (out out' : SinkSeen) (before : List ℕ)
+    → AreWords words (request asked) → asked.mode ≡ Gen → out.taken ≡ Some before → IsAnswer words board Done seen seen' out out'
+    → (n : ℕ) × IsModules asked.subject n × (text : List ℕ) × (out'.taken ≡ Some (before ++ text)) × RunsGenerated n board text

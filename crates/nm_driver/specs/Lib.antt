@@ -1,5 +1,6 @@
 pub mod Status
 pub mod Lines
+pub mod Generated
 pub mod RunText
 pub mod Applications
 pub mod NamedFiles

@@ -9,8 +9,8 @@ use Rattle.nesc_core.specs.Weights.{code_weight, pace_of_program}
 use Rattle.core_meaning.specs.SourceOf.{source_of}
 use Rattle.msp_isa.specs.Image.{IsImage, image_map}
 use Rattle.mote_bus.specs.Mote.{mote}
-use Rattle.image_code.specs.Code.{data_bytes}
 use Rattle.image_sizes.specs.StackWeight.{IsStackWeight}
+use Rattle.program_builder.specs.Built.{data_bytes}
 use Rattle.preempt_core.specs.Allowed.{Allowed}
 
 -- the code and vectors of an image, its bytes of data, and its stack
@@ -21,7 +21,7 @@ pub record MeetsProgram (program : Program) (code vectors : List ℕ) (ram stack
   -- .. within its stack
   pub bounded : (b : BoardState) (rows : List Due) (n : ℕ) → IsWordBoard b → AreWordRows IsWordGiven rows → RAM_END ≤ (mote (image_map code vectors) b rows n).least + stack
   pub image : IsImage code vectors
-  -- the data are the program's objects
+  -- the data are the program's objects, and the list of its tasks where it has any
   pub bytes : ram ≡ data_bytes program
   -- data and stack fit the memory
   pub fits : ram + stack ≤ RAM_BYTES

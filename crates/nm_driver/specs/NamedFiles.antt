@@ -12,10 +12,11 @@ use Rattle.mote_text.specs.ImageLines.{image_of}
 use Rattle.mote_text.specs.ScheduleText.{schedule_of}
 use Rattle.nesc_core.specs.Plain.{Program}
 use Rattle.nm_words.specs.declared.mode.Mode.{Mode}
-use Rattle.nm_words.specs.declared.mode.Mode.TheVariants.{Check, Build, Run, Mote}
+use Rattle.nm_words.specs.declared.mode.Mode.TheVariants.{Check, Build, Run, Mote, Gen}
 use Rattle.nm_driver.specs.declared.status.Status.{Status}
 use Rattle.nm_driver.specs.declared.status.Status.TheVariants as status
 use Rattle.nm_driver.specs.declared.status.Status.TheVariants.{Missing, ReadFault, BadSchedule, Limit, BadImage}
+use Rattle.nm_driver.specs.Generated.{IsModules, generated_app, told_of}
 use Rattle.nm_driver.specs.Applications.{HasApplication, IsRefused}
 
 -- ---- one file
@@ -111,15 +112,17 @@ pub record SourceStops (told : Told) (mode : Mode) (app : List ℕ) (status : St
 
 -- ---- what is run
 
--- an application that the mode takes, or an image
+-- an application that the mode takes, which may be one of generated files, or an image
 abbrev pub HasSubject : Told → Mode → List ℕ → Type 0
 HasSubject told Check app = HasApplication told Check app
 HasSubject told Build app = HasApplication told Build app
 HasSubject told Run app = HasApplication told Run app
 HasSubject told Mote name = (image : ℕ → ℕ) × HasImage told name image
+HasSubject told Gen name = (n : ℕ) × IsModules name n × HasApplication (told_of n) Gen generated_app
 
 abbrev pub SubjectStops : Told → Mode → List ℕ → Status → Type 0
 SubjectStops told Check app status = SourceStops told Check app status
 SubjectStops told Build app status = SourceStops told Build app status
 SubjectStops told Run app status = SourceStops told Run app status
 SubjectStops told Mote name status = ImageStops told name status
+SubjectStops told Gen name status = (n : ℕ) × IsModules name n × SourceStops (told_of n) Gen generated_app status

@@ -14,15 +14,16 @@ use Rattle.mote_run.specs.RunText.{mote_text}
 use Rattle.nm_words.specs.Asked.{Asked, AreInUse, AreWords, Requested, help, request, version}
 use Rattle.nm_words.specs.Texts.{help_text, version_text}
 use Rattle.nm_driver.specs.Lines.{answer_line, detail, plain_line}
-use Rattle.nm_driver.specs.RunText.{IsReportText, build_text, run_text}
+use Rattle.nm_driver.specs.Generated.{IsModules, IsSourceOf, generated_app, told_of}
+use Rattle.nm_driver.specs.RunText.{IsReportText, build_text, gen_text, run_text}
 use Rattle.nm_driver.specs.MeetsProgram.{MeetsProgram}
 use Rattle.nesc_preproc.specs.Kept.{name_at}
 use Rattle.wire_loading.specs.Needs.{file_of}
 use Rattle.nesc_programs.specs.Programs.{HasNames, HasProgram}
-use Rattle.nm_driver.specs.Applications.{CanBeBuilt, IsAccepted, IsOfSource, IsRefused}
+use Rattle.nm_driver.specs.Applications.{CanBeBuilt, IsAccepted, IsRefused}
 use Rattle.nm_driver.specs.NamedFiles.{HasImage, HasSchedule, HasSubject, ScheduleStops, SubjectStops}
 use Rattle.nm_words.specs.declared.mode.Mode.{Mode}
-use Rattle.nm_words.specs.declared.mode.Mode.TheVariants.{Check, Build, Run, Mote}
+use Rattle.nm_words.specs.declared.mode.Mode.TheVariants.{Check, Build, Run, Mote, Gen}
 use Rattle.nm_driver.specs.declared.status.Status.{Status}
 use Rattle.nm_driver.specs.declared.status.Status.TheVariants.{Done, Refused, Usage, Missing, ReadFault, WriteFault, NoMemory}
 
@@ -94,7 +95,8 @@ pub record Built (program : Program) : Type 0 where
   pub meets : MeetsProgram program code vectors ram stack
 
 -- a mode prints this of an application: its report, and behind it an image that does what the program allows, and behind that the trace of this
--- image on a board, with these rows, in so many slots; or it prints the trace of the image of a file
+-- image on a board, with these rows, in so many slots; or it prints the trace of the image of a file. Of generated files it prints the
+-- report, the image, and the totals of the run of this image on the board
 abbrev pub Prints : Option Told → Mode → List ℕ → BoardState → List Due → ℕ → List ℕ → Type 0
 Prints told Check app board rows budget text = (a : Reported told app) × (text ≡ a.report)
 Prints told Build app board rows budget text =
@@ -103,6 +105,9 @@ Prints told Run app board rows budget text =
     (a : Reported told app) × (b : Built a.program) × (text ≡ run_text a.report b.code b.vectors b.ram b.stack board rows budget)
 Prints told Mote name board rows budget text =
     (image : ℕ → ℕ) × (text ≡ mote_text image board rows budget) × ((files : Told) → told ≡ Some files → HasImage files name image)
+Prints told Gen name board rows budget text =
+    (n : ℕ) × IsModules name n × (a : Reported (Some (told_of n)) generated_app) × (b : Built a.program)
+    × (text ≡ gen_text a.report b.code b.vectors b.ram b.stack board n)
 
 -- what a request asks for, on the board that was handed in, with rows of words
 pub record IsRun (told : Option Told) (r : Requested) (board : BoardState) (text : List ℕ) : Type 0 where
@@ -130,11 +135,13 @@ place_file known app r = unwrap_or (name_at known (refusal_pos r).file) (file_of
 pub record IsRefusalLine (told : Option Told) (words : List (List ℕ)) (r : Refusal) (text : List ℕ) : Type 0 where
   pub asked : Requested
   pub words_are : AreWords words (request asked)
-  pub of_source : IsOfSource asked.mode
+  pub texts : Option Told
+  pub app : List ℕ
+  pub of_source : IsSourceOf told asked.mode asked.subject texts app
   pub known : Option Known
   pub program : Option Program
-  pub line : text ≡ answer_line (place_file known asked.subject r) (detail program r) (Refused r)
-  pub source : (files : Told) → told ≡ Some files → IsRefused files asked.mode asked.subject (fault.Refused r) known program
+  pub line : text ≡ answer_line (place_file known app r) (detail program r) (Refused r)
+  pub source : (files : Told) → texts ≡ Some files → IsRefused files asked.mode app (fault.Refused r) known program
 
 -- the text that goes with an answer
 abbrev pub HasText : Option Told → List (List ℕ) → BoardState → Status → List ℕ → Type 0

@@ -18,20 +18,24 @@ use Rattle.nm_driver.specs.declared.answer.Stop.TheVariants as stop
 use Rattle.nm_driver.specs.declared.subject.Built.{Built}
 use Rattle.nm_driver.specs.declared.subject.Head.{Head}
 use Rattle.nm_driver.specs.declared.subject.Subject.{Subject}
+use Rattle.nm_driver.specs.declared.subject.Tail.{Tail}
+use Rattle.nm_driver.specs.declared.subject.Tail.TheVariants.{Nothing, Trace, Totals}
 use Rattle.nm_driver.specs.declared.prepared.Prepared.{Prepared}
 use Rattle.mote_text.specs.declared.text_fault.TextFault.{TextFault}
 use Rattle.mote_text.specs.declared.text_fault.TextFault.TheVariants as text
 use Rattle.nm_words.specs.declared.mode.Mode.{Mode}
-use Rattle.nm_words.specs.declared.mode.Mode.TheVariants.{Check, Build, Run, Mote}
+use Rattle.nm_words.specs.declared.mode.Mode.TheVariants.{Check, Build, Run, Mote, Gen}
 use Rattle.nm_driver.specs.declared.status.Status.{Status}
 use Rattle.nm_driver.specs.declared.status.Status.TheVariants.{Done, Missing, ReadFault, WriteFault, BadSchedule, Limit, NoMemory, BadImage}
 use Rattle.nm_driver.specs.Lines.{answer_line, detail, plain_line}
 use Rattle.nesc_core.specs.View.{program_of}
 use Rattle.nesc_programs.specs.declared.application.Application.{Application}
+use Rattle.program_builder.specs.Built.{IsCause}
 use Rattle.nm_driver.specs.Applications.{IsRefused, IsRefusedIn}
 use Rattle.nm_driver.specs.NamedFiles.{ImageStops, status_of}
-use Rattle.nm_driver.specs.RunText.{trace_line}
-use Rattle.nm_driver.specs.Output.{IfMissing, Prints, place_file}
+use Rattle.nm_driver.specs.Generated.{IsModules, generated_app, told_of, totals_line}
+use Rattle.nm_driver.specs.RunText.{gen_text, trace_line}
+use Rattle.nm_driver.specs.Output.{Built as BuiltOf, IfMissing, Prints, Reported, place_file}
 
 -- ---- answers
 
@@ -102,6 +106,10 @@ pub record SaysFault (app : List ℕ) (known : Option Known) (program : Option P
   pub is_status : answer.status ≡ status_of cause
   pub is_line : line_of answer ≡ answer_line (fault_file known app cause) (fault_detail program cause) (status_of cause)
 
+-- the answer to the fault of an image, whichever program it was to be made of
+abbrev pub SaysUnbuilt : Fault → Answer → Type 0
+SaysUnbuilt cause answer = (p : Program) (app : List ℕ) (known : Option Known) → IsCause p cause → SaysFault app known (Some p) cause answer
+
 -- an answer about the files of an application
 pub record SaysOfSource (told : Option Told) (mode : Mode) (app : List ℕ) (answer : Answer) : Type 0 where
   pub cause : Fault
@@ -116,11 +124,22 @@ pub record SaysOfProgram (mode : Mode) (app : List ℕ) (a : Application) (answe
   pub says : SaysFault app a.reading (Some (program_of a.program)) cause answer
   pub refused : IsRefusedIn mode (program_of a.program) cause
 
+-- an answer about the application of so many modules
+abbrev pub SaysOfGenerated : List ℕ → Answer → Type 0
+SaysOfGenerated word answer = (n : ℕ) × IsModules word n × SaysOfSource (Some (told_of n)) Gen generated_app answer
+
+-- no file of the outside is its cause
+abbrev pub IsInside : Status → Type 0
+IsInside ReadFault = ⊥
+IsInside (Missing name) = ⊥
+IsInside _ = Unit {0}
+
 abbrev pub SaysOfSubject : Option Told → Mode → List ℕ → Answer → Type 0
 SaysOfSubject told Check app answer = SaysOfSource told Check app answer
 SaysOfSubject told Build app answer = SaysOfSource told Build app answer
 SaysOfSubject told Run app answer = SaysOfSource told Run app answer
 SaysOfSubject told Mote name answer = SaysOf told (λ files. ImageStops files name) answer
+SaysOfSubject told Gen name answer = SaysOfGenerated name answer
 
 -- ---- a run
 
@@ -139,23 +158,36 @@ abbrev pub line_before : Option Head → List ℕ
 line_before None = []
 line_before (Some head) = trace_line
 
--- what is printed of a run, where something is run
-abbrev pub run_bytes : Option Head → Option (List ℕ) → BoardState → List Due → ℕ → List ℕ
-run_bytes head None board rows n = []
-run_bytes head (Some image) board rows n = line_before head ++ mote_text (bytes_map image) board rows n
+-- what is printed behind the head: nothing, the trace of an image, or the line of the run of an image of so many modules
+abbrev pub tail_bytes : Option Head → Tail → BoardState → List Due → ℕ → List ℕ
+tail_bytes head Nothing board rows n = []
+tail_bytes head (Trace image) board rows n = line_before head ++ mote_text (bytes_map image) board rows n
+tail_bytes head (Totals modules image) board rows n = totals_line modules (bytes_map image) board
+
+-- what is printed of a subject
+abbrev pub subject_text : Subject → BoardState → List Due → ℕ → List ℕ
+subject_text s board rows n = head_bytes s.head ++ tail_bytes s.head s.tail board rows n
 
 -- what is printed of it, on any board
 abbrev pub PrintsAs : Option Told → Mode → List ℕ → Subject → Type 0
-PrintsAs told mode name subject =
-    (board : BoardState) (rows : List Due) (budget : ℕ) → Prints told mode name board rows budget (head_bytes subject.head ++ run_bytes subject.head subject.image board rows budget)
+PrintsAs told mode name subject = (board : BoardState) (rows : List Due) (budget : ℕ) → Prints told mode name board rows budget (subject_text subject board rows budget)
+
+-- what is printed of the application of n modules, from these files
+abbrev pub PrintsTotals : Option Told → ℕ → Subject → Type 0
+PrintsTotals texts n subject = (board : BoardState) (rows : List Due) (budget : ℕ)
+    → (a : Reported texts generated_app) × (b : BuiltOf a.program) × (subject_text subject board rows budget ≡ gen_text a.report b.code b.vectors b.ram b.stack board n)
 
 -- what a prepared run of this image prints on a board
 abbrev pub run_text_on : BoardState → Prepared → List ℕ → List ℕ
-run_text_on board p image = head_bytes p.subject.head ++ run_bytes p.subject.head (Some image) board p.rows.items p.budget
+run_text_on board p image = head_bytes p.subject.head ++ (line_before p.subject.head ++ mote_text (bytes_map image) board p.rows.items p.budget)
+
+-- what is printed of the run of this image of so many modules on a board
+abbrev pub totals_text_on : BoardState → Option Head → ℕ → List ℕ → List ℕ
+totals_text_on board head modules image = head_bytes head ++ totals_line modules (bytes_map image) board
 
 -- what is printed on a board
 abbrev pub text_on : BoardState → Prepared → List ℕ
-text_on board p = head_bytes p.subject.head ++ run_bytes p.subject.head p.subject.image board p.rows.items p.budget
+text_on board p = subject_text p.subject board p.rows.items p.budget
 
 -- a sink has taken an answer's text or a part of it, or there was no memory for it
 abbrev pub TakesAnswer : Status → Status → SinkSeen → SinkSeen → List ℕ → Type 0

@@ -7,7 +7,7 @@ ghost use Rattle.wire_loading.specs.Needs.{file_of};
 ghost use Rattle.nm_driver.specs.Lines.{answer_line, chain_text, detail};
 ghost use Rattle.nm_driver.specs.NamedFiles.{status_of};
 ghost use Rattle.nm_driver.specs.Output.{place_file};
-ghost use Rattle.nm_driver.specs.Prepared.{IfSays, IsNoMemory, SaysFault, detail_in, fault_detail, fault_file, file_in, line_of};
+ghost use Rattle.nm_driver.specs.Prepared.{IfSays, IsNoMemory, SaysFault, SaysUnbuilt, detail_in, fault_detail, fault_file, file_in, line_of};
 
 use crate::answer::{Answer, Place, Stop};
 use crate::status::Status;
@@ -116,6 +116,13 @@ fn says_fault(place: Option<Place>, fault: Fault) -> Stop
         status: status_of(fault),
         place,
     })
+}
+
+/// The answer to the fault of an image, which stands in no text.
+pub(crate) fn unbuilt(fault: Fault) -> Stop
+    ensures { IfSays result (SaysUnbuilt fault) }
+{
+    says_fault(None, fault)
 }
 
 /// The answer to a fault of an application, with its place in the files that were read, and the bodies of its program where it has one.

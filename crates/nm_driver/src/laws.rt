@@ -1,6 +1,6 @@
 //! What the top call's answers promise of a printed image.
 
-ghost use Rattle.nm_driver.specs.Headline.{PrintedImageRunsItsSource};
+ghost use Rattle.nm_driver.specs.Headline.{GeneratedImageRunsItsSource, PrintedImageRunsItsSource};
 
 use mote_text::image_reads_back;
 
@@ -8,6 +8,13 @@ use mote_text::image_reads_back;
 /// slot, within the printed stack.
 pub fn printed_image_runs_its_source()
     ensures { PrintedImageRunsItsSource }
+{
+    image_reads_back();
+}
+
+/// The same of the printed image of an application that is made, whatever files are handed in.
+pub fn generated_image_runs_its_source()
+    ensures { GeneratedImageRunsItsSource }
 {
     image_reads_back();
 }

@@ -5,6 +5,7 @@ mod answer;
 mod compile;
 mod faults;
 mod files;
+mod generated;
 mod laws;
 mod prepared;
 mod report;
@@ -13,6 +14,6 @@ mod status;
 mod subject;
 mod top_call;
 
-pub use laws::printed_image_runs_its_source;
+pub use laws::{generated_image_runs_its_source, printed_image_runs_its_source};
 pub use status::Status;
 pub use top_call::tool;

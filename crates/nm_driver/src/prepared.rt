@@ -4,6 +4,7 @@ ghost use Rattle.std.specs.Prelude.{ℕ, List, IfOk, IfErr};
 ghost use Rattle.mote_devices.specs.declared.state.BoardState.{BoardState};
 ghost use Rattle.mote_run.specs.Rows.{DoNotFall};
 ghost use Rattle.nm_words.specs.Asked.{AreWords, request, requested};
+ghost use Rattle.nm_words.specs.Modes.{IsSubject};
 ghost use Rattle.nm_driver.specs.Output.{IsDue, IsRun};
 ghost use Rattle.nm_driver.specs.Prepared.{IfSays, Reads, line_of, text_on};
 
@@ -29,6 +30,7 @@ pub(crate) fn prepare<F: Files>(
     wanted: Request,
     files: &mut F,
 ) -> Result<Prepared, Stop>
+    requires { IsSubject wanted.mode wanted.subject.now }
     ensures outside { Reads result (F.seen files.old) (F.seen files.new) }
     ensures order { IfOk result (λ p. DoNotFall p.rows.items) }
     ensures output { IfOk result (λ p. (board : BoardState) → IsRun (F.seen files.old).texts (requested wanted.entry) board (text_on board p)) }

@@ -1,26 +1,29 @@
 //! What is printed of an application, and what is run: its image, or one from a file.
 
-ghost use Rattle.std.specs.Prelude.{◌≡◌, Some, IfOk, IfErr, string_bytes};
+ghost use Rattle.std.specs.Prelude.{◌≡◌, ℕ, List, Option, Some, IfOk, IfErr, string_bytes};
 ghost use Rattle.nesc_core.specs.View.{program_of};
 ghost use Rattle.nesc_core.specs.WellFormed.{IsWellFormed};
 ghost use Rattle.nesc_preproc.specs.Expands.{Told};
 ghost use Rattle.nesc_programs.specs.Programs.{IsProgram};
+ghost use Rattle.nm_words.specs.Modes.{IsSubject};
 ghost use Rattle.nm_driver.specs.Applications.{Builds, CanBeBuilt, IsAccepted};
+ghost use Rattle.nm_driver.specs.Generated.{generated_app};
 ghost use Rattle.nm_driver.specs.MeetsProgram.{MeetsProgram};
 ghost use Rattle.nm_driver.specs.Output.{Reported as ReportedOf};
-ghost use Rattle.nm_driver.specs.Prepared.{IfSays, PrintsAs, Reads, SaysOfProgram, SaysOfSource, SaysOfSubject};
+ghost use Rattle.nm_driver.specs.Prepared.{IfSays, IsInside, PrintsAs, PrintsTotals, Reads, SaysOfGenerated, SaysOfProgram, SaysOfSource, SaysOfSubject};
 ghost use Rattle.nm_driver.specs.RunText.{sizes_text};
 
 use crate::answer::Stop;
 use crate::compile::compile;
 use crate::files::read_loaded;
+use crate::generated::{files_of, of_generated};
 use crate::report::report_text;
 use crate::source::read_application;
 use mote_text::{Loaded, load_image};
 use msp_isa::Image;
 use nesc_programs::Application;
 use nm_base::{Files, NoMemory};
-use nm_words::Mode;
+use nm_words::{Mode, modules_of};
 use std::alloc::Global;
 
 /// What was built of an application: the lines of its bytes of data and of stack, and its image.
@@ -37,11 +40,19 @@ pub(crate) struct Head {
     pub built: Option<Built>,
 }
 
+/// What is printed behind that: nothing, the trace of an image, or the totals of the run of an image of so many modules.
+#[derive(Drop)]
+pub(crate) enum Tail {
+    Nothing,
+    Trace(Loaded),
+    Totals(u32, Loaded),
+}
+
 /// What is printed of an application, and what is run.
 #[derive(Drop)]
 pub(crate) struct Subject {
     pub head: Option<Head>,
-    pub image: Option<Loaded>,
+    pub tail: Tail,
 }
 
 // An application with the text of its race report.
@@ -74,15 +85,15 @@ fn reported_of<F: Files>(alloc: Global, files: &mut F, app: &str) -> Result<Repo
     })
 }
 
-fn built_of(alloc: Global, app: &str, a: &Application) -> Result<Built, Stop>
-    requires formed { IsWellFormed (program_of a.now.program) }
-    requires accepted { IsAccepted (program_of a.now.program) }
-    ensures meets { IfOk result (λ b. MeetsProgram (program_of a.now.program) b.image.code.items b.image.vectors b.image.ram b.image.stack) }
-    ensures builds { IfOk result (λ _. CanBeBuilt (program_of a.now.program)) }
+fn built_of(alloc: Global, a: Application) -> Result<Built, Stop>
+    requires formed { IsWellFormed (program_of a.program) }
+    requires accepted { IsAccepted (program_of a.program) }
+    ensures meets { IfOk result (λ b. MeetsProgram (program_of a.program) b.image.code.items b.image.vectors b.image.ram b.image.stack) }
+    ensures builds { IfOk result (λ _. CanBeBuilt (program_of a.program)) }
     ensures sizes { IfOk result (λ b. string_bytes b.sizes ≡ sizes_text b.image.ram b.image.stack) }
-    ensures says { IfErr result (λ s. IfSays s (λ answer. (mode : Mode) → Builds mode → SaysOfProgram mode app.now a.now answer)) }
+    ensures says { IfErr result (λ s. IfSays s (λ answer. (app : List ℕ) (mode : Mode) → Builds mode → SaysOfProgram mode app a answer)) }
 {
-    let image = compile(alloc, app, a)?;
+    let image = compile(alloc, a)?;
     Ok(Built {
         sizes: sizes_of(alloc, &image)?,
         image,
@@ -100,7 +111,7 @@ fn checked<F: Files>(alloc: Global, files: &mut F, app: &str) -> Result<Subject,
             report: reported.report,
             built: None,
         }),
-        image: None,
+        tail: Tail::Nothing,
     })
 }
 
@@ -110,13 +121,13 @@ fn compiled<F: Files>(alloc: Global, files: &mut F, app: &str) -> Result<Subject
     ensures says { IfErr result (λ s. IfSays s (SaysOfSource (F.seen files.old).texts Mode.Build app.now)) }
 {
     let reported = reported_of(alloc, files, app)?;
-    let built = built_of(alloc, app, &reported.application)?;
+    let built = built_of(alloc, reported.application)?;
     Ok(Subject {
         head: Some(Head {
             report: reported.report,
             built: Some(built),
         }),
-        image: None,
+        tail: Tail::Nothing,
     })
 }
 
@@ -126,15 +137,47 @@ fn runnable<F: Files>(alloc: Global, files: &mut F, app: &str) -> Result<Subject
     ensures says { IfErr result (λ s. IfSays s (SaysOfSource (F.seen files.old).texts Mode.Run app.now)) }
 {
     let reported = reported_of(alloc, files, app)?;
-    let built = built_of(alloc, app, &reported.application)?;
+    let built = built_of(alloc, reported.application)?;
     let image = load_image(alloc, &built.image)?;
     Ok(Subject {
         head: Some(Head {
             report: reported.report,
             built: Some(built),
         }),
-        image: Some(image),
+        tail: Tail::Trace(image),
     })
+}
+
+// The application of so many modules, from these files.
+fn made<F: Files>(alloc: Global, files: &mut F, modules: u32) -> Result<Subject, Stop>
+    ensures prints { IfOk result (PrintsTotals (F.seen files.old).texts modules) }
+    ensures says { IfErr result (λ s. IfSays s (SaysOfSource (F.seen files.old).texts Mode.Gen generated_app)) }
+{
+    let reported = reported_of(alloc, files, "GenAppC")?;
+    let built = built_of(alloc, reported.application)?;
+    let image = load_image(alloc, &built.image)?;
+    Ok(Subject {
+        head: Some(Head {
+            report: reported.report,
+            built: Some(built),
+        }),
+        tail: Tail::Totals(modules, image),
+    })
+}
+
+// The application of so many modules, from files that are made.
+fn generated(alloc: Global, word: &str) -> Result<Subject, Stop>
+    requires { IsSubject Mode.Gen word.now }
+    ensures prints { IfOk result (λ s. (told : Option Told) → PrintsAs told Mode.Gen word.now s) }
+    ensures says { IfErr result (λ s. IfSays s (SaysOfGenerated word.now)) }
+    ensures inside { IfErr result (λ s. IfSays s (λ a. IsInside a.status)) }
+{
+    let modules = modules_of(word);
+    let mut files = files_of(alloc, modules)?;
+    match made(alloc, &mut files, modules) {
+        Ok(subject) => Ok(subject),
+        Err(stop) => Err(of_generated(stop)),
+    }
 }
 
 /// What a mode prints and runs of an application, or of the image in a file.
@@ -144,6 +187,7 @@ pub(crate) fn subject_of<F: Files>(
     mode: Mode,
     name: &str,
 ) -> Result<Subject, Stop>
+    requires { IsSubject mode name.now }
     ensures outside { Reads result (F.seen files.old) (F.seen files.new) }
     ensures prints { IfOk result (PrintsAs (F.seen files.old).texts mode name.now) }
     ensures says { IfErr result (λ s. IfSays s (SaysOfSubject (F.seen files.old).texts mode name.now)) }
@@ -154,7 +198,8 @@ pub(crate) fn subject_of<F: Files>(
         Mode::Run => runnable(alloc, files, name),
         Mode::Mote => Ok(Subject {
             head: None,
-            image: Some(read_loaded(alloc, files, name)?),
+            tail: Tail::Trace(read_loaded(alloc, files, name)?),
         }),
+        Mode::Gen => generated(alloc, name),
     }
 }

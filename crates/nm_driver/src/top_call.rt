@@ -7,13 +7,15 @@ ghost use Rattle.mote_run.specs.Held.{IsFresh, board_in, image_in};
 ghost use Rattle.mote_run.specs.Rows.{DoNotFall};
 ghost use Rattle.mote_run.specs.RunText.{mote_text};
 ghost use Rattle.nm_words.specs.Asked.{AreWords, request, requested};
+ghost use Rattle.nm_words.specs.Modes.{IsSubject};
 ghost use Rattle.nm_driver.specs.Output.{IsAnswer};
-ghost use Rattle.nm_driver.specs.Prepared.{Ends, IsRunStatus, Performs, built_bytes, head_bytes, line_before, run_text_on, text_on};
+ghost use Rattle.nm_driver.specs.Prepared.{Ends, IsRunStatus, Performs, built_bytes, head_bytes, line_before, run_text_on, text_on, totals_text_on};
 
 use crate::answer::{Stop, line_of, says};
+use crate::generated::totals_line;
 use crate::prepared::{Prepared, prepare};
 use crate::status::Status;
-use crate::subject::{Built, Head};
+use crate::subject::{Built, Head, Tail};
 use mote_bus::Board;
 use mote_devices::{Device, Due};
 use mote_run::{AsMote, BoardMote, MoteOf};
@@ -25,7 +27,8 @@ use std::alloc::Global;
 
 /// Does what the words behind the program's name ask for, on a mote with these devices in its first slots, at most eight:
 /// `check APP` prints the race report of the application of the file `APP.nc`, `build APP` prints its image behind that, and
-/// `run APP SCHEDULE` runs the image as well; `mote IMAGE SCHEDULE` runs an image that stands in a file. `--budget N` is the number of slots, 10,000 where it is left out. `--help` and
+/// `run APP SCHEDULE` runs the image as well; `mote IMAGE SCHEDULE` runs an image that stands in a file; `gen N` makes the files of an application of
+/// N modules, prints what `build` prints of it, and a line of the totals of its run. `--budget N` is the number of slots of `run` and `mote`, 10,000 where it is left out. `--help` and
 /// `--version` print their texts.
 pub fn tool<F: Files, S: Sink>(
     alloc: Global,
@@ -55,6 +58,7 @@ fn answer_request<F: Files, S: Sink>(
     board: Vec<Box<dyn Device>>,
 ) -> Status
     requires devices { vec_len board ≤ 8 }
+    requires subject { IsSubject wanted.mode wanted.subject.now }
     ensures { (words : List (List ℕ)) → AreWords words (request (requested wanted.entry)) →
         IsAnswer words (board_of (map ⟦<Box<dyn Device> as Device>⟧.state board.items)) result (F.seen files.old) (F.seen files.new) (S.seen out.old) (S.seen out.new) }
 {
@@ -104,9 +108,13 @@ fn perform<S: Sink>(
     ensures kind { IsRunStatus result }
     ensures wrote { Performs result (S.seen out.old) (S.seen out.new) (text_on (board_of (map ⟦<Box<dyn Device> as Device>⟧.state board.items)) prepared.now) }
 {
-    match &prepared.subject.image {
-        Some(image) => run_image(alloc, prepared, image, board, out),
-        None => match write_head(&prepared.subject.head, out) {
+    match &prepared.subject.tail {
+        Tail::Trace(image) => run_image(alloc, prepared, image, board, out),
+        Tail::Totals(modules, image) => {
+            let head = &prepared.subject.head;
+            count_image(alloc, head, *modules, image, board, out)
+        }
+        Tail::Nothing => match write_head(&prepared.subject.head, out) {
             Ok(()) => Status::Done,
             Err(WriteFault) => Status::WriteFault,
         },
@@ -140,6 +148,39 @@ fn run_image<S: Sink>(
         Ok(()) => Status::Done,
         Err(WriteFault) => Status::WriteFault,
     }
+}
+
+// Counts the run of an image of so many modules on its board, and writes the line of the totals, behind what is printed before.
+fn count_image<S: Sink>(
+    alloc: Global,
+    head: &Option<Head>,
+    modules: u32,
+    image: &Loaded,
+    devices: Vec<Box<dyn Device>>,
+    out: &mut S,
+) -> Status
+    requires devices { vec_len devices ≤ 8 }
+    ensures kind { IsRunStatus result }
+    ensures wrote { Performs result (S.seen out.old) (S.seen out.new) (totals_text_on (board_of (map ⟦<Box<dyn Device> as Device>⟧.state devices.items)) head.now modules image.now) }
+{
+    let Ok(mut mote) = BoardMote::load(alloc, image, Board::new(devices)) else {
+        return Status::NoMemory;
+    };
+    let Ok(line) = totals_line(alloc, &mut mote, modules) else {
+        return Status::NoMemory;
+    };
+    match write_totals(head, line.as_str(), out) {
+        Ok(()) => Status::Done,
+        Err(WriteFault) => Status::WriteFault,
+    }
+}
+
+// What stands before the line of the totals, and this line.
+fn write_totals<S: Sink>(head: &Option<Head>, line: &str, out: &mut S) -> Result<(), WriteFault>
+    ensures { Writes result (S.seen out.old) (S.seen out.new) (head_bytes head.now ++ line.now) }
+{
+    write_head(head, out)?;
+    write_all(out, line.as_bytes())
 }
 
 // The sizes of what was built, and its image.

@@ -1,8 +1,9 @@
 -- What a parse answers, and what the words ask for.
-use Rattle.std.proofs.Common.{◌≡◌, ◌∙◌, ◌⊎◌, inl, inr, true, List, [], ◌∷◌, refl, sym, subst}
+use Rattle.std.proofs.Common.{◌≡◌, ◌∙◌, ◌⊎◌, inl, inr, true, List, [], ◌∷◌, Some, refl, sym, subst}
+use Rattle.std.specs.Prelude.{codes}
 use Rattle.clap.proofs.OnLiterals.{clap_on_literals}
 use Rattle.clap.specs.Simple.{App, built, is_simple, matches_of}
-use Rattle.clap.specs.Walk.{Text}
+use Rattle.clap.specs.Walk.{Row, Text, first_of}
 use Rattle.clap.specs.Kinds.{IsAmong, Kinds}
 use Rattle.clap.specs.Faults.{fault_of, is_simple_and_free}
 use Rattle.clap.specs.declared.error.kind.ErrorKind.{ErrorKind}
@@ -11,7 +12,9 @@ use Rattle.nm_words.specs.Asked.{AreInUse, IsRequest, Requested, help, request, 
 use Rattle.nm_words.specs.Command.{nescmote}
 use Rattle.std.proofs.Common.{ap, is_some}
 use Rattle.nm_words.specs.Asked.{IsRefused}
-use Rattle.nm_words.specs.Modes.{takes_schedule}
+use Rattle.nm_words.specs.Modes.{IsSubject, mode_word, takes_schedule}
+use Rattle.nm_words.specs.declared.mode.Mode.{Mode}
+use Rattle.nm_words.specs.declared.mode.Mode.TheVariants.{Gen}
 use Rattle.nm_words.proofs.OneAnswer.{same_mode, some_same}
 use Rattle.nm_words.proofs.OneKind.{among_one, fault_one}
 
@@ -64,11 +67,20 @@ refuses words k fails not_help not_version (request r, h) = no_kinds _ k h.0 fai
 refuses words k fails not_help not_version (help, h) = not_help (one_same _ _ _ fails h)
 refuses words k fails not_help not_version (version, h) = not_version (one_same _ _ _ fails h)
 
+-- the subject of a request is its mode's
+pub subject_at : (rows : List Row) (r : Requested) (m : Mode) (word : Text) → IsRequest rows r → first_of (codes "MODE") rows ≡ Some (mode_word m)
+    → first_of (codes "APP") rows ≡ Some word → IsSubject m word
+subject_at rows r m word is named at =
+    subst (λ (n : Mode). IsSubject n word) (same_mode r.mode m (some_same _ _ (sym is.mode ∙ named)))
+    (subst (IsSubject r.mode) (some_same _ _ (sym is.subject ∙ at)) is.is_subject)
+
 -- what is refused is not in use
 pub refused_apart : (words : List Text) → IsRefused words → AreInUse words → ⊥
 refused_apart words (inl (k, fails, not_help, not_version)) in_use = refuses words k fails not_help not_version in_use
 refused_apart words (inr (taken, inl unknown)) in_use = asks_nothing words taken (λ r is. unknown r.mode is.mode) in_use
-refused_apart words (inr (taken, inr (m, named, wrong))) in_use =
+refused_apart words (inr (taken, inr (inl (m, named, wrong)))) in_use =
     asks_nothing words taken (λ r is.
     let same : r.mode ≡ m = same_mode r.mode m (some_same _ _ (sym is.mode ∙ named)) in
     wrong (ap is_some is.schedule ∙ (is.fits ∙ ap takes_schedule same))) in_use
+refused_apart words (inr (taken, inr (inr (word, named, at, wrong)))) in_use =
+    asks_nothing words taken (λ r is. wrong (subject_at _ r Gen word is named at)) in_use

@@ -2,6 +2,7 @@ pub mod Numbers
 pub mod OneKind
 pub mod OneAnswer
 pub mod Getters
+pub mod Subjects
 pub mod Answered
 pub mod Built
 pub mod Entries

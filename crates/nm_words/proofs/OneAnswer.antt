@@ -4,7 +4,7 @@ use Rattle.std.specs.Prelude.{codes}
 use Rattle.std.specs.Str.{bytes_eq}
 use Rattle.clap.specs.Words.{Row, Text}
 use Rattle.nm_words.specs.declared.mode.Mode.{Mode}
-use Rattle.nm_words.specs.declared.mode.Mode.TheVariants.{Check, Build, Run, Mote}
+use Rattle.nm_words.specs.declared.mode.Mode.TheVariants.{Check, Build, Run, Mote, Gen}
 use Rattle.nm_words.specs.Asked.{Asked, AreWords, IsRequest, Requested, help, request, version}
 use Rattle.nm_words.specs.Modes.{mode_word}
 
@@ -14,13 +14,15 @@ mode_at word =
     cond (bytes_eq word (codes "check")) (Some Check)
     (cond (bytes_eq word (codes "build")) (Some Build)
     (cond (bytes_eq word (codes "run")) (Some Run)
-    (cond (bytes_eq word (codes "mote")) (Some Mote) None)))
+    (cond (bytes_eq word (codes "mote")) (Some Mote)
+    (cond (bytes_eq word (codes "gen")) (Some Gen) None))))
 
 pub its_word : (m : Mode) → mode_at (mode_word m) ≡ Some m
 its_word Check = refl
 its_word Build = refl
 its_word Run = refl
 its_word Mote = refl
+its_word Gen = refl
 
 pub some_same : {X : Type 0} (x y : X) → Some x ≡ Some y → x ≡ y
 some_same x y e = cc

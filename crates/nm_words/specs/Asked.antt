@@ -10,13 +10,14 @@ use Rattle.clap.specs.declared.parser.matches.Found.{Found}
 use Rattle.clap.specs.declared.error.kind.ErrorKind.{ErrorKind}
 use Rattle.clap.specs.declared.error.kind.ErrorKind.TheVariants.{DisplayHelp, DisplayVersion}
 use Rattle.nm_words.specs.Command.{nescmote}
-use Rattle.nm_words.specs.Modes.{mode_word, takes_schedule}
+use Rattle.nm_words.specs.Modes.{IsSubject, mode_word, takes_schedule}
 use Rattle.nm_words.specs.declared.mode.Mode.{Mode}
+use Rattle.nm_words.specs.declared.mode.Mode.TheVariants.{Gen}
 use Rattle.nm_words.specs.declared.asked.Request.{Request}
 use Rattle.nm_words.specs.declared.asked.Asked.{Asked as AskedWords}
 use Rattle.nm_words.specs.declared.asked.Asked.TheVariants as variant
 
--- a mode, what it runs (an application, or the file of an image), the file of a schedule, and a number of slots
+-- a mode, what it runs (an application, the file of an image, or a number of modules), the file of a schedule, and a number of slots
 pub record Requested : Type 0 where
   pub mode : Mode
   pub subject : Text
@@ -34,10 +35,11 @@ number_of text =
     let digits = without_leading_plus text in
     if is_numeral digits && nat_lt (digits_value 10 digits) (2 ^ 32) then Some (digits_value 10 digits) else None
 
--- what the parser found asks for this: the mode is known, and there is a schedule exactly where it takes one
+-- what the parser found asks for this: the mode is known and takes the subject, and there is a schedule exactly where it takes one
 pub record IsRequest (rows : List Row) (r : Requested) : Type 0 where
   pub mode : first_of (codes "MODE") rows ≡ Some (mode_word r.mode)
   pub subject : first_of (codes "APP") rows ≡ Some r.subject
+  pub is_subject : IsSubject r.mode r.subject
   pub schedule : first_of (codes "SCHEDULE") rows ≡ r.schedule
   pub fits : is_some r.schedule ≡ takes_schedule r.mode
   pub budget : option_and_then number_of (one_of (codes "budget") rows) ≡ Some r.budget
@@ -69,10 +71,14 @@ HasUnknownMode rows = (m : Mode) → first_of (codes "MODE") rows ≡ Some (mode
 abbrev pub HasWrongSchedule : List Row → Type 0
 HasWrongSchedule rows = (m : Mode) × (first_of (codes "MODE") rows ≡ Some (mode_word m)) × (is_some (first_of (codes "SCHEDULE") rows) ≡ takes_schedule m → ⊥)
 
--- the parser refuses the words, or takes them, and mode and schedule do not fit
+-- modules are to be made, and the word is no number of them
+abbrev pub HasWrongSubject : List Row → Type 0
+HasWrongSubject rows = (word : Text) × (first_of (codes "MODE") rows ≡ Some (mode_word Gen)) × (first_of (codes "APP") rows ≡ Some word) × (IsSubject Gen word → ⊥)
+
+-- the parser refuses the words, or takes them, and mode, subject and schedule do not fit
 abbrev pub IsRefused : List Text → Type 0
 IsRefused words = IsFaulty words
-    ⊎ ((fault_of nescmote words ≡ []) × (HasUnknownMode (matches_of nescmote words) ⊎ HasWrongSchedule (matches_of nescmote words)))
+    ⊎ ((fault_of nescmote words ≡ []) × (HasUnknownMode (matches_of nescmote words) ⊎ (HasWrongSchedule (matches_of nescmote words) ⊎ HasWrongSubject (matches_of nescmote words))))
 
 -- the parser found an application, and a budget in its range
 abbrev pub HasValues : Found → Type 0

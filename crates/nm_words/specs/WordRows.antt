@@ -5,7 +5,7 @@ use Rattle.clap.specs.declared.error.kind.ErrorKind.TheVariants.{ArgumentConflic
 use Rattle.nm_words.specs.Asked.{Asked, AreInUse, AreWords, help, request, version}
 use Rattle.nm_words.specs.Command.{nescmote}
 use Rattle.nm_words.specs.declared.mode.Mode.{Mode}
-use Rattle.nm_words.specs.declared.mode.Mode.TheVariants.{Check, Build, Run, Mote}
+use Rattle.nm_words.specs.declared.mode.Mode.TheVariants.{Check, Build, Run, Mote, Gen}
 
 abbrev run : Text
 run = codes "run"
@@ -25,11 +25,19 @@ asks mode budget = request (record { mode = mode; subject = app; schedule = Some
 abbrev asks_without : Mode → Asked
 asks_without mode = request (record { mode = mode; subject = app; schedule = None; budget = 10000 })
 
+abbrev gen : Text
+gen = codes "gen"
+
+abbrev asks_modules : Text → Asked
+asks_modules number = request (record { mode = Gen; subject = number; schedule = None; budget = 10000 })
+
 pub record InUse : Type 0 where
   pub check : AreWords (codes "check" ∷ app ∷ []) (asks_without Check)
   pub build : AreWords (codes "build" ∷ app ∷ []) (asks_without Build)
   pub no_budget : AreWords (run ∷ app ∷ file ∷ []) (asks Run 10000)
   pub mote : AreWords (codes "mote" ∷ app ∷ file ∷ []) (asks Mote 10000)
+  pub modules : AreWords (gen ∷ codes "20" ∷ []) (asks_modules (codes "20"))
+  pub most_modules : AreWords (gen ∷ codes "60" ∷ []) (asks_modules (codes "60"))
   pub behind : AreWords (run ∷ app ∷ file ∷ option ∷ codes "5" ∷ []) (asks Run 5)
   pub in_one_word : AreWords (run ∷ app ∷ file ∷ codes "--budget=5" ∷ []) (asks Run 5)
   pub in_front : AreWords (option ∷ codes "5" ∷ run ∷ app ∷ file ∷ []) (asks Run 5)
@@ -67,3 +75,10 @@ pub record NotInUse : Type 0 where
   pub unknown_mode : AreInUse (codes "fly" ∷ app ∷ file ∷ []) → ⊥
   pub no_schedule : AreInUse (run ∷ app ∷ []) → ⊥
   pub check_by_schedule : AreInUse (codes "check" ∷ app ∷ file ∷ []) → ⊥
+  pub no_modules : AreInUse (gen ∷ codes "0" ∷ []) → ⊥
+  pub one_module_too_many : AreInUse (gen ∷ codes "61" ∷ []) → ⊥
+  -- a number of modules has no zero and no `+` in front
+  pub modules_behind_zero : AreInUse (gen ∷ codes "05" ∷ []) → ⊥
+  pub modules_behind_plus : AreInUse (gen ∷ codes "+5" ∷ []) → ⊥
+  pub modules_by_letter : AreInUse (gen ∷ codes "x" ∷ []) → ⊥
+  pub modules_by_schedule : AreInUse (gen ∷ codes "20" ∷ file ∷ []) → ⊥

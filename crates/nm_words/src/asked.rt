@@ -3,8 +3,8 @@
 use crate::mode::Mode;
 use std::alloc::AllocError;
 
-/// What is done: the mode, what it runs (an application, or the file of an image), the file of its schedule where the
-/// mode takes one, and the most slots of a run.
+/// What is done: the mode, what it runs (an application, the file of an image, or a number of modules), the file of its
+/// schedule where the mode takes one, and the most slots of a run.
 #[derive(Clone, Copy, Debug, PartialEq, Eq)]
 pub struct Request<'a> {
     pub mode: Mode,

@@ -2,7 +2,7 @@
 
 ghost use Rattle.std.specs.Prelude.{◌≡◌, ◌⊎◌, ◌≤◌, map, string_bytes, Err, IfOk, IfSome, MatchOption, None};
 ghost use Rattle.clap.specs.Words.{app_of, found_of, rows_of};
-ghost use Rattle.nm_words.specs.Asked.{AreInUse, AreWords, HasUnknownMode, HasValues, HasWrongSchedule, IsInRange, IsRefused, IsRequest, Requested, asked_of, requested};
+ghost use Rattle.nm_words.specs.Asked.{AreInUse, AreWords, HasUnknownMode, HasValues, HasWrongSchedule, HasWrongSubject, IsInRange, IsRefused, IsRequest, Requested, asked_of, requested};
 ghost use Rattle.nm_words.specs.Command.{nescmote};
 ghost use Rattle.nm_words.specs.declared.asked.WordsFault.TheVariants.{Usage};
 
@@ -65,18 +65,23 @@ pub fn asked_by<'a>(alloc: Global, words: &'a [String]) -> Result<Asked<'a>, Wor
     }
 }
 
-// What the matches of a command line ask for; None where the mode is unknown, or a schedule is missing or one too many.
+// What the matches of a command line ask for; None where the mode is unknown, a schedule is missing or one too many, or
+// the mode does not take its subject.
 fn request_of<'a>(matches: &ArgMatches<'a>) -> Option<Request<'a>>
     ensures asked { MatchOption result ((r : Requested) → IsRequest (rows_of (found_of matches.now)) r → ⊥)
         (λ r. IsRequest (rows_of (found_of matches.now)) (requested r)) }
     ensures range { HasValues (found_of matches.now) → IfSome result (λ r. r.budget ≤ 1000000) }
     ensures refused { result ≡ None → HasValues (found_of matches.now) →
-        HasUnknownMode (rows_of (found_of matches.now)) ⊎ HasWrongSchedule (rows_of (found_of matches.now)) }
+        HasUnknownMode (rows_of (found_of matches.now)) ⊎ (HasWrongSchedule (rows_of (found_of matches.now))
+        ⊎ HasWrongSubject (rows_of (found_of matches.now))) }
 {
     let mode = Mode::of_word(matches.get_str("MODE")?)?;
     let subject = matches.get_str("APP")?;
     let schedule = matches.get_str("SCHEDULE");
     if schedule.is_some() != mode.takes_schedule() {
+        return None;
+    }
+    if !mode.takes_subject(subject) {
         return None;
     }
     let budget = matches.get_one::<u32>("budget")?;

@@ -6,6 +6,7 @@ mod command;
 mod laws;
 mod mode;
 mod rows;
+mod subject;
 mod texts;
 
 pub use asked::{Asked, Request, WordsFault};
@@ -13,4 +14,5 @@ pub use command::asked_by;
 pub use laws::one_answer;
 pub use mode::Mode;
 pub use rows::worked_rows;
+pub use subject::modules_of;
 pub use texts::{HELP, VERSION};

@@ -11,9 +11,10 @@ Modes:
   build APP            compile it, and print the report and the image
   run APP SCHEDULE     the same, and run the image
   mote IMAGE SCHEDULE  run the image in the file IMAGE
+  gen N                build an application of N modules, and count what its run does
 
 APP is read from the file APP.nc. SCHEDULE is a file of what happens to the mote: lines
-`SLOT arrive DEVICE VALUE`, in the order of their slots.
+`SLOT arrive DEVICE VALUE`, in the order of their slots. The N of gen is from 1 to 60.
 
 Options:
   --budget N     slots to run, from 0 to 1000000 [default: 10000]

@@ -1,4 +1,4 @@
--- The checks of a program stand behind the operations, and the pace affords the instructions that a check takes.
+-- The checks of a program stand behind the operations, and take few instructions.
 use Rattle.std.proofs.Common.{◌≡◌, ℕ, ◌+◌, ◌-◌, ◌≤◌, Bool, true, false, cond, nat_lt, List, [], ◌∷◌, ◌++◌, length, map, Some, All, refl, subst, arith}
 use Rattle.std.specs.Prelude.{◌||◌, slice_get, sum_by}
 use Rattle.std.specs.List.{list_any}
@@ -14,10 +14,10 @@ use Rattle.mid_code.specs.declared.code.Check.{Check}
 use Rattle.mid_code.specs.Help.{first_check}
 use Rattle.lower_expr.specs.Code.{check_for}
 use Rattle.lower_stmt.specs.Bodies.{checks_of, in_order, lowered}
-use Rattle.lower_pace.specs.Pace.{help_bound}
 use Rattle.msp_select.specs.Select.{routine_of}
 use Rattle.msp_checks.specs.Checks.{check_items, check_most}
 use Rattle.msp_checks.proofs.Laid.{checks_are_short}
+use Rattle.program_image.specs.Runs.{routine_bound}
 use Rattle.program_image.proofs.Entries.{Begins}
 use Rattle.program_image.proofs.Roots.{element}
 
@@ -95,7 +95,7 @@ few_each p (t ∷ ts) h =
     let e = length-map (runs_of p t) pair_of in
     All-cons (HasFew p) (check_for p t) (map (check_for p) ts) (omega (arith, e, few)) (few_each p ts (All-tail (λ t. length (runs_of p t) ≤ ranges_of p) t ts h))
 
-pub check_fits : (p : Program) (k : ℕ) (check : Check) → slice_get (lowered p).checks k ≡ Some check → check_most check ≤ help_bound p
+pub check_fits : (p : Program) (k : ℕ) (check : Check) → slice_get (lowered p).checks k ≡ Some check → check_most check ≤ routine_bound p
 check_fits p k check is =
     let few = element (HasFew p) (map (check_for p) (checks_of p)) k check (few_each p (checks_of p) (few_runs p)) is in
     let short = (checks_are_short check).0 in

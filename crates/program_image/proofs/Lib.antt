@@ -8,3 +8,6 @@ pub mod Whole
 pub mod Vectors
 pub mod Checks
 pub mod Ordered
+pub mod InOrder
+pub mod Lines
+pub mod Places

@@ -1,13 +1,19 @@
--- The boot body and the handlers of a program are bodies without parameters and results, and functions of its lowered code.
-use Rattle.std.proofs.Common.{◌≡◌, ℕ, zero, suc, ◌<◌, ◌==◌, Bool, true, false, cond, List, [], ◌∷◌, length, map, take, Option, Some, None, All, refl, sym, ap, subst, ◌∙◌, arith}
+-- The boot body and the handlers of a program are bodies without parameters and results, and bodies are functions of its lowered code.
+use Rattle.std.proofs.Common.{◌≡◌, ℕ, zero, suc, ◌+◌, ◌<◌, ◌==◌, Bool, true, false, cond, List, [], ◌∷◌, ◌++◌, length, map, take, Option, Some, None, All, refl, sym, ap, subst, ◌∙◌, arith}
 use Rattle.std.specs.Prelude.{slice_get}
 use Rattle.std.proofs.lemmas.List.Elements.{All-head, All-tail}
 use Rattle.nesc_core.specs.Plain.{Body, Program, void}
 use Rattle.nesc_core.specs.WellFormed.{BeginsContext, IsRoot, IsWellFormed, boots, handles, is_task}
 use Rattle.core_meaning.specs.SourceOf.{handler_in}
 use Rattle.mid_code.specs.declared.code.MidFn.{MidFn}
+use Rattle.mid_code.specs.declared.instr.Mid.{Mid}
+use Rattle.mid_code.specs.declared.instr.Mid.TheVariants.{Ret}
+use Rattle.mid_code.specs.Form.{FitsProgram, IsMidCode}
 use Rattle.mid_code.specs.Machine.{fn_of, no_fn}
-use Rattle.lower_stmt.specs.Bodies.{checks_of, lowered, mid_fn_of, params_from}
+use Rattle.lower_expr.specs.Code.{taken_at}
+use Rattle.lower_stmt.specs.Bodies.{base_of, body_code, checks_of, lowered, mid_fn_of, params_from, spots_of, ways_of}
+use Rattle.lower_stmt.specs.Code.{nothing_code, stmt_code}
+use Rattle.lower_form.proofs.Fits.{taken_length}
 use Rattle.lower_pace.proofs.Bodies.{fn_some}
 
 pub element : {A : Type 0} (P : A → Type 0) (xs : List A) (k : ℕ) (x : A) → All P xs → slice_get xs k ≡ Some x → P x
@@ -42,13 +48,36 @@ root_body p well f context = plain_body p f (slice_get p.bodies f) refl (is_root
 
 -- ---- functions
 
+pub fn_there : (p : Program) (f : ℕ) (b : Body) → slice_get p.bodies f ≡ Some b → f < length (lowered p).fns
+fn_there p f b is = there (mid_fn_of p (checks_of p)) p.bodies f b is
+
+pub fn_params : (p : Program) (f : ℕ) (b : Body) → slice_get p.bodies f ≡ Some b → b.params ≡ 0 → (fn_of (lowered p) f).params ≡ []
+fn_params p f b is none =
+    ap (λ (fn : MidFn). fn.params) (fn_some (mid_fn_of p (checks_of p)) p.bodies f b no_fn is)
+    ∙ ap (λ k. params_from (take k b.locals) 0) none
+
 pub root_there : (p : Program) (f : ℕ) → IsPlainBody p f → f < length (lowered p).fns
-root_there p f r = there (mid_fn_of p (checks_of p)) p.bodies f r.body r.is
+root_there p f r = fn_there p f r.body r.is
 
 pub root_params : (p : Program) (f : ℕ) → IsPlainBody p f → (fn_of (lowered p) f).params ≡ []
-root_params p f r =
-    ap (λ (fn : MidFn). fn.params) (fn_some (mid_fn_of p (checks_of p)) p.bodies f r.body no_fn r.is)
-    ∙ ap (λ k. params_from (take k r.body.locals) 0) r.params
+root_params p f r = fn_params p f r.body r.is r.params
+
+-- what a function gives back is what its last instruction does
+behind : (P : Mid → Type 0) (a b : List Mid) → All P (a ++ b) → All P b
+behind P [] b h = h
+behind P (i ∷ a) b h = behind P a b (All-tail P i (a ++ b) h)
+
+module _ (p : Program) (form : IsMidCode (lowered p)) (f : ℕ) where
+  abbrev Fits : Mid → Type 0
+  Fits = FitsProgram (lowered p) form.gives f
+
+  pub fn_gives : (b : Body) → slice_get p.bodies f ≡ Some b → length (taken_at b.result 0) ≡ form.gives f
+  fn_gives b is =
+      let last : List Mid = Ret (taken_at b.result (base_of b + 2)) ∷ [] in
+      let nothing : List Mid = nothing_code b.result (base_of b + 2) in
+      let all : All Fits (body_code p (checks_of p) b) = subst (λ (fn : MidFn). All Fits fn.code) (fn_some (mid_fn_of p (checks_of p)) p.bodies f b no_fn is) (form.fits f) in
+      let at_end : All Fits last = behind Fits nothing last (behind Fits (stmt_code p b.locals (checks_of p) (spots_of p b) (base_of b) b.code (ways_of p b) 0) (nothing ++ last) all) in
+      taken_length b.result 0 (base_of b + 2) ∙ All-head Fits (Ret (taken_at b.result (base_of b + 2))) [] at_end
 
 -- ---- handlers
 

@@ -41,31 +41,34 @@ functions_of p = length (lowered p).fns
 abbrev pub sizes_of : Program → (deep : ℕ → ℕ) → (data_end handler_depth : ℕ) → (entries : ℕ → ℕ) → Sizes
 sizes_of p deep data_end handler_depth entries = record { data_end = data_end; boot = entries p.boot; boot_depth = deep p.boot; handler_depth = handler_depth; bound = pace_of_program p / 2 }
 
-module _ (p : Program) (deep : ℕ → ℕ) (image : ℕ → ℕ) (data_end handler_depth : ℕ) (code : List CodeFn) (entries : ℕ → ℕ) where
-  -- line v has a function of its own, which calls its handler
-  pub record IsLine (v : ℕ) : Type 0 where
-    pub f : ℕ
-    pub is : f < length code
-    pub behind : functions_of p ≤ f
-    pub items : items_of code f ≡ (handler_of (handler_in p.handlers v)).items
-    pub vector : word_in image (VECTORS + 2 * v) ≡ entries f
+-- line v has a function of its own, behind those of bodies, which calls its handler
+pub record IsLine (p : Program) (image : ℕ → ℕ) (code : List CodeFn) (entries : ℕ → ℕ) (v : ℕ) : Type 0 where
+  pub f : ℕ
+  pub is : f < length code
+  pub behind : functions_of p ≤ f
+  pub items : items_of code f ≡ (handler_of (handler_in p.handlers v)).items
+  pub vector : word_in image (VECTORS + 2 * v) ≡ entries f
 
-  -- no function's stack is deeper than `deep` says, and none of a line than `handler_depth`
-  pub record IsProgramImage : Type 0 where
-    pub functions : (f : ℕ) → f < functions_of p → items_of code f ≡ items_of_parts (parts (lowered p) (homes_of p) (own_of p) f)
-    pub operations : (h : ℕ) → h < 48 → items_of code (functions_of p + h) ≡ routine_items (code_at h)
-    pub checks : (k : ℕ) (check : Check) → slice_get (lowered p).checks k ≡ Some check → items_of code (functions_of p + (48 + k)) ≡ check_items check
-    pub of_words : AreOfWords (lowered p).checks
-    pub many : functions_of p + (48 + length (lowered p).checks) ≤ length code
-    pub depths : (f : ℕ) → f < functions_of p → IsDeep (lowered p) (homes_of p) (own_of p) deep f
-    pub least_depth : 26 ≤ handler_depth
-    pub handlers : (v f : ℕ) → handler_in p.handlers v ≡ Some f → 26 + deep f ≤ handler_depth
-    pub low_end : RAM_START ≤ data_end
-    pub objects : objects_end p ≤ data_end
-    pub even_end : even data_end ≡ data_end
-    pub room : data_end + stack_of (sizes_of p deep data_end handler_depth entries) ≤ RAM_END
-    pub reset : ℕ
-    pub reset_is : reset < length code
-    pub reset_items : items_of code reset ≡ (reset_of p.boot).items
-    pub vector : word_in image 0xFFFE ≡ entries reset
-    pub lines : (v : ℕ) → v < 8 → IsLine v
+-- the functions of bodies and the routines stand in order, and no function's stack is deeper than `deep` says
+pub record HasFunctions (p : Program) (deep : ℕ → ℕ) (data_end : ℕ) (code : List CodeFn) : Type 0 where
+  pub functions : (f : ℕ) → f < functions_of p → items_of code f ≡ items_of_parts (parts (lowered p) (homes_of p) (own_of p) f)
+  pub operations : (h : ℕ) → h < 48 → items_of code (functions_of p + h) ≡ routine_items (code_at h)
+  pub checks : (k : ℕ) (check : Check) → slice_get (lowered p).checks k ≡ Some check → items_of code (functions_of p + (48 + k)) ≡ check_items check
+  pub of_words : AreOfWords (lowered p).checks
+  pub many : functions_of p + (48 + length (lowered p).checks) ≤ length code
+  pub depths : (f : ℕ) → f < functions_of p → IsDeep (lowered p) (homes_of p) (own_of p) deep f
+  pub low_end : RAM_START ≤ data_end
+  pub objects : objects_end p ≤ data_end
+
+-- and no stack of a line is deeper than `handler_depth`
+pub record IsProgramImage (p : Program) (deep : ℕ → ℕ) (image : ℕ → ℕ) (data_end handler_depth : ℕ) (code : List CodeFn) (entries : ℕ → ℕ) : Type 0 where
+  pub lowered_code : HasFunctions p deep data_end code
+  pub least_depth : 26 ≤ handler_depth
+  pub handlers : (v f : ℕ) → handler_in p.handlers v ≡ Some f → 26 + deep f ≤ handler_depth
+  pub even_end : even data_end ≡ data_end
+  pub room : data_end + stack_of (sizes_of p deep data_end handler_depth entries) ≤ RAM_END
+  pub reset : ℕ
+  pub reset_is : reset < length code
+  pub reset_items : items_of code reset ≡ (reset_of p.boot).items
+  pub vector : word_in image 0xFFFE ≡ entries reset
+  pub lines : (v : ℕ) → v < 8 → IsLine p image code entries v

@@ -41,8 +41,19 @@ reset_place p = functions_of p + (48 + length (lowered p).checks)
 abbrev pub lines_of : Program → List ℕ
 lines_of p = range_with_len (reset_place p + 1) 8
 
--- Functions with the items that selection gives, routines of 48 operations and of the checks of the lowered program, and vectors that
--- lead to the lines, all others to reset
+-- functions with the items that selection gives, and routines of 48 operations and of the checks of the lowered program
+pub record AreFunctions (p : Program) (deep : ℕ → ℕ) (data_end : ℕ) (functions routines : List CodeFn) : Type 0 where
+  pub many : length functions ≡ functions_of p
+  pub items : (f : ℕ) → f < functions_of p → items_of functions f ≡ items_of_parts (parts (lowered p) (homes_of p) (own_of p) f)
+  pub many_routines : length routines ≡ 48 + length (lowered p).checks
+  pub operations : (h : ℕ) → h < 48 → items_of routines h ≡ routine_items (code_at h)
+  pub checks : (k : ℕ) (check : Check) → slice_get (lowered p).checks k ≡ Some check → items_of routines (48 + k) ≡ check_items check
+  pub of_words : AreOfWords (lowered p).checks
+  pub depths : (f : ℕ) → f < functions_of p → IsDeep (lowered p) (homes_of p) (own_of p) deep f
+  pub low_end : RAM_START ≤ data_end
+  pub objects : objects_end p ≤ data_end
+
+-- the same with vectors that lead to the lines, all others to reset
 pub record IsOrdered (p : Program) (deep : ℕ → ℕ) (words vectors : List ℕ) (data_end handler_depth : ℕ) (functions routines : List CodeFn) (entries : ℕ → ℕ) : Type 0 where
   pub many : length functions ≡ functions_of p
   pub items : (f : ℕ) → f < functions_of p → items_of functions f ≡ items_of_parts (parts (lowered p) (homes_of p) (own_of p) f)

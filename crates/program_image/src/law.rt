@@ -1,8 +1,8 @@
 //! From nesC programs to runs of the mote.
 
-ghost use Rattle.program_image.specs.Bodies.{BehaviourKeepsLaws};
+ghost use Rattle.program_image.specs.Bodies.{BehaviourKeepsFunctions, BehaviourKeepsLaws};
 ghost use Rattle.program_image.specs.Order.{OrderedCodeStands};
-ghost use Rattle.program_image.specs.Runs.{LoweredCodeIsSelected, ProgramImagesRun, RootsMeetTheirLaws};
+ghost use Rattle.program_image.specs.Runs.{LinesAreLaid, LoweredCodeIsSelected, ProgramImagesRun, RootsMeetTheirLaws};
 
 use lower_keeps::{all_rules_are_kept, objects_are_touched, posts_name_tasks};
 
@@ -11,23 +11,31 @@ pub fn behaviour_keeps_laws()
     ensures { BehaviourKeepsLaws }
 {}
 
-/// In a program's image the functions of the boot body and of handlers meet selection's premises.
+/// The same of functions, which give the same values.
+pub fn behaviour_keeps_functions()
+    ensures { BehaviourKeepsFunctions }
+{}
+
+/// Where a program's code is laid out, the functions of bodies without parameters meet selection's premises.
 pub fn lowered_code_is_selected()
     ensures { LoweredCodeIsSelected }
 {
     all_rules_are_kept();
-    posts_name_tasks();
     objects_are_touched();
 }
 
-/// Their code meets the open law of what the bodies do in the source, with a bound that leaves room in half of the program's pace.
+/// The code of those that begin a context meets the open law of what the bodies do in the source.
 pub fn roots_meet_their_laws()
     ensures { RootsMeetTheirLaws }
 {
     all_rules_are_kept();
-    posts_name_tasks();
     objects_are_touched();
 }
+
+/// The code of the lines serves handlers whose functions meet their laws.
+pub fn lines_are_laid()
+    ensures { LinesAreLaid }
+{}
 
 /// Functions of bodies, routines, and the code of reset and of the lines, laid out in this order, with vectors that lead to reset and to
 /// the lines, are a program's image.

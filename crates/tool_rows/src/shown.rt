@@ -3,7 +3,7 @@
 use nm_base::NoMemory;
 use std::alloc::Global;
 
-// The parts of a text: what stands before the image, the image with the bytes of its stack, and the trace.
+// The parts of a text: what stands before the image, the image with the bytes of its stack and a line of totals behind it, and the trace.
 #[derive(Clone, Copy)]
 enum Part {
     Source,
@@ -55,6 +55,7 @@ fn put_line(out: &mut String, line: &str) -> Result<(), NoMemory> {
 fn put_shown(out: &mut String, part: Part, line: &str) -> Result<(), NoMemory> {
     match part {
         Part::Source => put_line(out, source_line(line)),
+        Part::Image if line.starts_with("gen ") => put_line(out, line),
         Part::Image => Ok(()),
         Part::Trace => put_line(out, trace_line(line)),
     }

@@ -1,6 +1,6 @@
 use Rattle.std.proofs.Common.{drop}
 use Rattle.nesc_core.specs.View.{stmts_of}
-use Rattle.body_bytes.specs.Lean.{AreLeanStmts}
+use Rattle.lean_pace.specs.Lean.{AreLeanStmts}
 use Rattle.compilable_programs.proofs.measuring.+cases.Given as goal
 
 abbrev pub invariant-are_lean_stmts-loop-s : goal.invariant-are_lean_stmts-loop-s

@@ -1,6 +1,6 @@
 use Rattle.std.proofs.Common.{◌≤◌, drop, length}
 use Rattle.nesc_core.specs.View.{stmts_of}
-use Rattle.body_bytes.specs.Lean.{count_working}
+use Rattle.lean_pace.specs.Lean.{count_working}
 use Rattle.compilable_programs.proofs.measuring.are_few.Given as goal
 
 abbrev pub invariant-loop-s : goal.invariant-loop-s

@@ -2,7 +2,7 @@ use Rattle.std.proofs.Common.{drop, map}
 use Rattle.nesc_core.specs.Plain.{Body}
 use Rattle.nesc_core.specs.View.{body_of}
 use Rattle.well_formed.specs.Formed.{Each}
-use Rattle.body_bytes.specs.Lean.{IsLeanStmt}
+use Rattle.lean_pace.specs.Lean.{IsLeanStmt}
 use Rattle.compilable_programs.proofs.measuring.are_lean_bodies.Given as goal
 
 abbrev pub invariant-loop-body : goal.invariant-loop-body

@@ -14,14 +14,14 @@ returns-in_err-built-clause-outside g c =
     let r = c.in_ok-reported.reported in
     let e = c.in_err-built.field-0.0 in
     passed_outside c.from_residual-in_err-built.result e _ _ c.from_residual-in_err-built.ensures.1
-    (refused_outside Reported Subject r Build c.args.app.now r.application e _ _ c.in_ok-reported.ensures.outside (if_says e (λ answer h. h Build tt) c.in_err-built.ensures.says))
+    (refused_outside Reported Subject r Build c.args.app.now r.application e _ _ c.in_ok-reported.ensures.outside (if_says e (λ answer h. h c.args.app.now Build tt) c.in_err-built.ensures.says))
 
 pub returns-in_err-built-clause-says : goal.returns-in_err-built-clause-says
 returns-in_err-built-clause-says g c =
     let r = c.in_ok-reported.reported in
     let e = c.in_err-built.field-0.0 in
     passed _ c.from_residual-in_err-built.result e c.from_residual-in_err-built.ensures.1
-    (if_says e (λ answer h. of_source _ Build c.args.app.now r.application answer c.in_ok-reported.ensures.program (h Build tt)) c.in_err-built.ensures.says)
+    (if_says e (λ answer h. of_source _ Build c.args.app.now r.application answer c.in_ok-reported.ensures.program (h c.args.app.now Build tt)) c.in_err-built.ensures.says)
 
 pub returns-clause-prints : goal.returns-clause-prints
 returns-clause-prints g c = λ board rows budget.

@@ -6,7 +6,7 @@ use Rattle.clap.specs.declared.error.kind.ErrorKind.TheVariants.{DisplayHelp, Di
 use Rattle.nm_words.specs.Asked.{IsRequest, requested}
 use Rattle.nm_words.specs.Command.{nescmote}
 use Rattle.nm_words.proofs.Answered.{asks_nothing, fails, refuses, simple, simple_app}
-use Rattle.nm_words.specs.Asked.{HasUnknownMode, HasWrongSchedule}
+use Rattle.nm_words.specs.Asked.{HasUnknownMode, HasWrongSchedule, HasWrongSubject}
 use Rattle.std.proofs.Common.{refl}
 use Rattle.nm_words.proofs.Taken.{app_given, budget_given}
 use Rattle.nm_words.proofs.command.asked_by.Goals as goal
@@ -44,7 +44,7 @@ returns-in-Ok-clause-refused c usage =
     (c.in-Ok.ensures.matches (ap is_simple is ∙ simple_app)).0 ∙ ap (λ a. matches_of a words) is in
     let parsed = c.in-Ok.ensures.parsed in
     let why = c.in-None.ensures.refused refl (app_given _ is _ parsed, budget_given _ is _ parsed) in
-    inr (taken, subst (λ (r : List Row). HasUnknownMode r ⊎ HasWrongSchedule r) rows why)
+    inr (taken, subst (λ (r : List Row). HasUnknownMode r ⊎ (HasWrongSchedule r ⊎ HasWrongSubject r)) rows why)
 
 pub returns-in-DisplayHelp-clause-asked : goal.returns-in-DisplayHelp-clause-asked
 returns-in-DisplayHelp-clause-asked c =

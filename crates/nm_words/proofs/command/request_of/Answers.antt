@@ -1,10 +1,12 @@
-use Rattle.std.proofs.Common.{◌≡◌, ◌∙◌, true, false, inl, inr, arith, sym, ap, Some, is_some, rules}
+use Rattle.std.proofs.Common.{◌≡◌, ◌∙◌, true, false, inl, inr, arith, sym, subst, ap, Some, is_some, rules}
 use Rattle.std.specs.Prelude.{codes}
 use Rattle.std.specs.Str.Parse.{ParsesUnsigned, ExplainsUnsignedError, HasUnsignedDigitsIfOk}
 use Rattle.clap.specs.Words.{first_of, first_value, found_of, without_minus, rows_of}
-use Rattle.nm_words.specs.Modes.{takes_schedule}
+use Rattle.nm_words.specs.Modes.{IsSubject, mode_word, takes_schedule}
 use Rattle.nm_words.proofs.Getters.{text_in, agree, budget_read, differ, found, found_none, found_some, has_text, lacks, mode_is}
 use Rattle.nm_words.proofs.OneAnswer.{some_same}
+use Rattle.nm_words.proofs.Answered.{subject_at}
+use Rattle.nm_words.proofs.Subjects.{only_modules}
 use Rattle.std.proofs.Common.{None, refl}
 use Rattle.clap.proofs.CallerReads.{signed_reads}
 use Rattle.nm_words.proofs.command.request_of.Goals as goal
@@ -52,7 +54,22 @@ returns-then-is_some-takes_schedule c =
     record {
       asked = λ r is. wrong (ap is_some is.schedule ∙ (is.fits ∙ ap takes_schedule (mode_is rows r _ c.in_ok-mode.mode is word names)));
       range = λ h. tt;
-      refused = λ e h. inr (c.in_ok-mode.mode, word ∙ ap (λ w. Some w) names, wrong);
+      refused = λ e h. inr (inl (c.in_ok-mode.mode, word ∙ ap (λ w. Some w) names, wrong));
+    }
+
+pub returns-then-not-takes_subject : goal.returns-then-not-takes_subject
+returns-then-not-takes_subject c =
+    let rows = rows_of (found_of c.args.matches.now) in
+    let word = found_some (found_of c.args.matches.now) (codes "MODE") c.get_str.result _ c.get_str.ensures c.in_ok-get_str.was in
+    let names = rw c.in_ok-mode.was at c.of_word.ensures in
+    let named : first_of (codes "MODE") rows ≡ Some (mode_word c.in_ok-mode.mode) = word ∙ ap (λ w. Some w) names in
+    let subject = found_some (found_of c.args.matches.now) (codes "APP") c.get_str-2.result _ c.get_str-2.ensures c.in_ok-subject.was in
+    let other = c.takes_subject.ensures.refused c.if-not-takes_subject.true in
+    let mode = only_modules c.in_ok-mode.mode _ other in
+    record {
+      asked = λ r is. other (subject_at rows r c.in_ok-mode.mode _ is named subject);
+      range = λ h. tt;
+      refused = λ e h. inr (inr (_, named ∙ ap (λ m. Some (mode_word m)) mode, subject, subst (λ m. IsSubject m c.in_ok-subject.subject.now → ⊥) mode other));
     }
 
 pub returns-in_err-budget : goal.returns-in_err-budget
@@ -81,6 +98,7 @@ returns c =
       asked = record {
         mode = word ∙ ap (λ w. Some w) names;
         subject = found_some (found_of c.args.matches.now) (codes "APP") c.get_str-2.result _ c.get_str-2.ensures c.in_ok-subject.was;
+        is_subject = c.takes_subject.ensures.taken c.if-not-takes_subject.false;
         schedule = found (found_of c.args.matches.now) (codes "SCHEDULE") c.get_str-schedule.result c.get_str-schedule.ensures;
         fits = has_text c.get_str-schedule.result ∙ (sym is_some_is ∙ (same ∙ takes_is));
         budget = read ∙ c.in_ok-budget.was;

@@ -1,0 +1,7 @@
+pub mod Cut
+pub mod Each
+pub mod Ends
+pub mod Fields
+pub mod Kernels
+pub mod Orders
+pub mod Whole

@@ -1,0 +1,9 @@
+pub mod Lists
+pub mod Frames
+pub mod Measured
+pub mod Clears
+pub mod Stmts
+pub mod Bodies
+pub mod Weighed
+pub mod Kernel
+pub mod Numbers

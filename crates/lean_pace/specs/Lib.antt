@@ -1,0 +1,3 @@
+pub mod Lean
+pub mod Pace
+pub mod Rows

@@ -1,0 +1,4 @@
+pub mod Places
+pub mod Pieces
+pub mod Good
+pub mod Running

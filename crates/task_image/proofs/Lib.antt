@@ -1,0 +1,5 @@
+pub mod Wider
+pub mod Tasks
+pub mod Whole
+pub mod Ordered
+pub mod Lean

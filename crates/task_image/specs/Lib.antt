@@ -1,0 +1,4 @@
+pub mod Image
+pub mod Order
+pub mod Runs
+pub mod Lean

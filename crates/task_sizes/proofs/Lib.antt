@@ -1,0 +1,10 @@
+pub mod Posts
+pub mod Kernel
+pub mod Loop
+pub mod Tasks
+pub mod CodeWeight
+pub mod Calls
+pub mod Chains
+pub mod Data
+pub mod Roots
+pub mod Stack

@@ -1,0 +1,6 @@
+configuration EchoAppC { }
+implementation {
+  components MainC, EchoC, UartC;
+  EchoC.Boot -> MainC;
+  EchoC.Uart -> UartC;
+}

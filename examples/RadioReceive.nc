@@ -1,0 +1,3 @@
+interface RadioReceive {
+  event void receive(uint8_t value);
+}

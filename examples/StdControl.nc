@@ -1,0 +1,4 @@
+interface StdControl {
+  command error_t start();
+  command error_t stop();
+}
