@@ -1,7 +1,8 @@
 //! What a token is to the grammar.
 
-ghost use Rattle.std.specs.Prelude.{◌≡◌, bytes_eq, map};
+ghost use Rattle.std.specs.Prelude.{ℕ, List, ◌∷◌, ◌≡◌, bytes_eq, map};
 ghost use Rattle.nesc_tree.specs.Sorts as spec;
+ghost use Rattle.nesc_tree.specs.declared.sorts.Sort.TheVariants as s;
 
 use crate::names::TypeNames;
 use nm_base::{Kind, Token};
@@ -175,120 +176,6 @@ pub enum Sort {
     Other,
 }
 
-const SIGNS: [(&[u8], Sort); 47] = [
-    (b"(", Sort::LParen),
-    (b")", Sort::RParen),
-    (b"[", Sort::LBracket),
-    (b"]", Sort::RBracket),
-    (b"{", Sort::LBrace),
-    (b"}", Sort::RBrace),
-    (b";", Sort::Semi),
-    (b",", Sort::Comma),
-    (b".", Sort::Dot),
-    (b"->", Sort::Arrow),
-    (b"<-", Sort::BackArrow),
-    (b"@", Sort::At),
-    (b"?", Sort::Question),
-    (b":", Sort::Colon),
-    (b"=", Sort::Assign),
-    (b"+=", Sort::OpAssign),
-    (b"-=", Sort::OpAssign),
-    (b"*=", Sort::OpAssign),
-    (b"/=", Sort::OpAssign),
-    (b"%=", Sort::OpAssign),
-    (b"&=", Sort::OpAssign),
-    (b"|=", Sort::OpAssign),
-    (b"^=", Sort::OpAssign),
-    (b"<<=", Sort::OpAssign),
-    (b">>=", Sort::OpAssign),
-    (b"||", Sort::OrOr),
-    (b"&&", Sort::AndAnd),
-    (b"|", Sort::Bar),
-    (b"^", Sort::Caret),
-    (b"&", Sort::Amp),
-    (b"==", Sort::Equality),
-    (b"!=", Sort::Equality),
-    (b"<", Sort::Less),
-    (b">", Sort::Greater),
-    (b"<=", Sort::OrEqual),
-    (b">=", Sort::OrEqual),
-    (b"<<", Sort::Shift),
-    (b">>", Sort::Shift),
-    (b"+", Sort::Plus),
-    (b"-", Sort::Minus),
-    (b"*", Sort::Star),
-    (b"/", Sort::Divide),
-    (b"%", Sort::Divide),
-    (b"~", Sort::Complement),
-    (b"!", Sort::Complement),
-    (b"++", Sort::Step),
-    (b"--", Sort::Step),
-];
-
-const KEYWORDS: [(&[u8], Sort); 61] = [
-    (b"const", Sort::Qualifier),
-    (b"volatile", Sort::Qualifier),
-    (b"void", Sort::Void),
-    (b"signed", Sort::Signedness),
-    (b"unsigned", Sort::Signedness),
-    (b"char", Sort::CharType),
-    (b"short", Sort::Length),
-    (b"long", Sort::Length),
-    (b"int", Sort::Int),
-    (b"struct", Sort::Struct),
-    (b"enum", Sort::Enum),
-    (b"typedef", Sort::Typedef),
-    (b"sizeof", Sort::SizeOf),
-    (b"NULL", Sort::Null),
-    (b"unique", Sort::Unique),
-    (b"uniqueCount", Sort::Unique),
-    (b"port_read", Sort::PortRead),
-    (b"port_write", Sort::PortWrite),
-    (b"post", Sort::Post),
-    (b"call", Sort::Call),
-    (b"signal", Sort::Call),
-    (b"atomic", Sort::Atomic),
-    (b"if", Sort::If),
-    (b"else", Sort::Else),
-    (b"while", Sort::While),
-    (b"do", Sort::Do),
-    (b"for", Sort::For),
-    (b"switch", Sort::Switch),
-    (b"case", Sort::Case),
-    (b"default", Sort::Default),
-    (b"break", Sort::Break),
-    (b"continue", Sort::Continue),
-    (b"return", Sort::Return),
-    (b"norace", Sort::Norace),
-    (b"static", Sort::Static),
-    (b"inline", Sort::Inline),
-    (b"async", Sort::Async),
-    (b"task", Sort::Task),
-    (b"command", Sort::Item),
-    (b"event", Sort::Item),
-    (b"interface", Sort::Interface),
-    (b"generic", Sort::Generic),
-    (b"module", Sort::Module),
-    (b"configuration", Sort::Configuration),
-    (b"implementation", Sort::Implementation),
-    (b"components", Sort::Components),
-    (b"provides", Sort::Specify),
-    (b"uses", Sort::Specify),
-    (b"as", Sort::As),
-    (b"new", Sort::New),
-    (b"goto", Sort::Other),
-    (b"float", Sort::Other),
-    (b"double", Sort::Other),
-    (b"union", Sort::Other),
-    (b"nx_union", Sort::Other),
-    (b"extern", Sort::Other),
-    (b"includes", Sort::Other),
-    (b"asm", Sort::Other),
-    (b"__asm__", Sort::Other),
-    (b"__attribute__", Sort::Other),
-    (b"nx_struct", Sort::Other),
-];
-
 fn same(a: &[u8], b: &[u8]) -> bool
     ensures { result ≡ bytes_eq a.now b.now }
 {
@@ -311,18 +198,173 @@ fn found_in(rows: &[(&[u8], Sort)], text: &[u8], other: Sort) -> Sort
     }
 }
 
+// The signs with this first byte.
+#[tactic(auto, unfolding(crate::specs::Sorts::sign))]
+fn signs_at(first: u8) -> &'static [(&'static [u8], Sort)]
+    ensures { (rest : List ℕ) →
+        spec.found_in (map (λ row. (row.0.now, row.1)) result.now) (first ∷ rest) s.Other ≡ spec.sign (first ∷ rest) }
+{
+    match first {
+        b'!' => &[(b"!=", Sort::Equality), (b"!", Sort::Complement)],
+        b'%' => &[(b"%=", Sort::OpAssign), (b"%", Sort::Divide)],
+        b'&' => &[
+            (b"&=", Sort::OpAssign),
+            (b"&&", Sort::AndAnd),
+            (b"&", Sort::Amp),
+        ],
+        b'(' => &[(b"(", Sort::LParen)],
+        b')' => &[(b")", Sort::RParen)],
+        b'*' => &[(b"*=", Sort::OpAssign), (b"*", Sort::Star)],
+        b'+' => &[
+            (b"+=", Sort::OpAssign),
+            (b"+", Sort::Plus),
+            (b"++", Sort::Step),
+        ],
+        b',' => &[(b",", Sort::Comma)],
+        b'-' => &[
+            (b"->", Sort::Arrow),
+            (b"-=", Sort::OpAssign),
+            (b"-", Sort::Minus),
+            (b"--", Sort::Step),
+        ],
+        b'.' => &[(b".", Sort::Dot)],
+        b'/' => &[(b"/=", Sort::OpAssign), (b"/", Sort::Divide)],
+        b':' => &[(b":", Sort::Colon)],
+        b';' => &[(b";", Sort::Semi)],
+        b'<' => &[
+            (b"<-", Sort::BackArrow),
+            (b"<<=", Sort::OpAssign),
+            (b"<", Sort::Less),
+            (b"<=", Sort::OrEqual),
+            (b"<<", Sort::Shift),
+        ],
+        b'=' => &[(b"=", Sort::Assign), (b"==", Sort::Equality)],
+        b'>' => &[
+            (b">>=", Sort::OpAssign),
+            (b">", Sort::Greater),
+            (b">=", Sort::OrEqual),
+            (b">>", Sort::Shift),
+        ],
+        b'?' => &[(b"?", Sort::Question)],
+        b'@' => &[(b"@", Sort::At)],
+        b'[' => &[(b"[", Sort::LBracket)],
+        b']' => &[(b"]", Sort::RBracket)],
+        b'^' => &[(b"^=", Sort::OpAssign), (b"^", Sort::Caret)],
+        b'{' => &[(b"{", Sort::LBrace)],
+        b'|' => &[
+            (b"|=", Sort::OpAssign),
+            (b"||", Sort::OrOr),
+            (b"|", Sort::Bar),
+        ],
+        b'}' => &[(b"}", Sort::RBrace)],
+        b'~' => &[(b"~", Sort::Complement)],
+        _ => &[],
+    }
+}
+
 #[tactic(auto, unfolding(crate::specs::Sorts::sign))]
 fn sign(text: &[u8]) -> Sort
     ensures { result ≡ spec.sign text.now }
 {
-    found_in(&SIGNS, text, Sort::Other)
+    match text {
+        [] => Sort::Other,
+        [first, ..] => found_in(signs_at(*first), text, Sort::Other),
+    }
+}
+
+// The keywords with this first byte.
+#[tactic(auto, unfolding(crate::specs::Sorts::keyword))]
+fn keywords_at(first: u8) -> &'static [(&'static [u8], Sort)]
+    ensures { (rest : List ℕ) →
+        spec.found_in (map (λ row. (row.0.now, row.1)) result.now) (first ∷ rest) s.Word ≡ spec.keyword (first ∷ rest) }
+{
+    match first {
+        b'N' => &[(b"NULL", Sort::Null)],
+        b'_' => &[(b"__asm__", Sort::Other), (b"__attribute__", Sort::Other)],
+        b'a' => &[
+            (b"atomic", Sort::Atomic),
+            (b"async", Sort::Async),
+            (b"as", Sort::As),
+            (b"asm", Sort::Other),
+        ],
+        b'b' => &[(b"break", Sort::Break)],
+        b'c' => &[
+            (b"const", Sort::Qualifier),
+            (b"char", Sort::CharType),
+            (b"call", Sort::Call),
+            (b"case", Sort::Case),
+            (b"continue", Sort::Continue),
+            (b"command", Sort::Item),
+            (b"configuration", Sort::Configuration),
+            (b"components", Sort::Components),
+        ],
+        b'd' => &[
+            (b"do", Sort::Do),
+            (b"default", Sort::Default),
+            (b"double", Sort::Other),
+        ],
+        b'e' => &[
+            (b"enum", Sort::Enum),
+            (b"else", Sort::Else),
+            (b"event", Sort::Item),
+            (b"extern", Sort::Other),
+        ],
+        b'f' => &[(b"for", Sort::For), (b"float", Sort::Other)],
+        b'g' => &[(b"generic", Sort::Generic), (b"goto", Sort::Other)],
+        b'i' => &[
+            (b"int", Sort::Int),
+            (b"if", Sort::If),
+            (b"inline", Sort::Inline),
+            (b"interface", Sort::Interface),
+            (b"implementation", Sort::Implementation),
+            (b"includes", Sort::Other),
+        ],
+        b'l' => &[(b"long", Sort::Length)],
+        b'm' => &[(b"module", Sort::Module)],
+        b'n' => &[
+            (b"norace", Sort::Norace),
+            (b"new", Sort::New),
+            (b"nx_union", Sort::Other),
+            (b"nx_struct", Sort::Other),
+        ],
+        b'p' => &[
+            (b"port_read", Sort::PortRead),
+            (b"port_write", Sort::PortWrite),
+            (b"post", Sort::Post),
+            (b"provides", Sort::Specify),
+        ],
+        b'r' => &[(b"return", Sort::Return)],
+        b's' => &[
+            (b"signed", Sort::Signedness),
+            (b"short", Sort::Length),
+            (b"struct", Sort::Struct),
+            (b"sizeof", Sort::SizeOf),
+            (b"signal", Sort::Call),
+            (b"switch", Sort::Switch),
+            (b"static", Sort::Static),
+        ],
+        b't' => &[(b"typedef", Sort::Typedef), (b"task", Sort::Task)],
+        b'u' => &[
+            (b"unsigned", Sort::Signedness),
+            (b"unique", Sort::Unique),
+            (b"uniqueCount", Sort::Unique),
+            (b"uses", Sort::Specify),
+            (b"union", Sort::Other),
+        ],
+        b'v' => &[(b"volatile", Sort::Qualifier), (b"void", Sort::Void)],
+        b'w' => &[(b"while", Sort::While)],
+        _ => &[],
+    }
 }
 
 #[tactic(auto, unfolding(crate::specs::Sorts::keyword))]
 fn keyword(text: &[u8]) -> Sort
     ensures { result ≡ spec.keyword text.now }
 {
-    found_in(&KEYWORDS, text, Sort::Word)
+    match text {
+        [] => Sort::Word,
+        [first, ..] => found_in(keywords_at(*first), text, Sort::Word),
+    }
 }
 
 /// What the token is where no type name is in force.
