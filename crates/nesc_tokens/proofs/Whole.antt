@@ -1,6 +1,8 @@
 -- Texts without line splices: their bytes are read as they stand.
-use Rattle.std.proofs.Common.{◌≡◌, ℕ, suc, ◌+◌, ◌<◌, ◌≤◌, List, [], ◌∷◌, ◌++◌, length, get_or, take, drop, refl, sym, ap, ◌∙◌, arith, take-append-drop, length-take-le}
-use Rattle.std.specs.Prelude.{slice_index}
+use Rattle.std.proofs.Common.{◌≡◌, ℕ, zero, suc, ◌+◌, ◌<◌, ◌≤◌, List, [], ◌∷◌, ◌++◌, length, get_or, take, drop, refl, sym, ap, ◌∙◌, arith, take-append-drop, length-take-le}
+use Rattle.std.specs.Prelude.{slice_index, nat_eq, false}
+use Rattle.std.specs.List.{list_any}
+use Rattle.std.proofs.lemmas.Bool.{or_parts}
 use Rattle.std.proofs.lemmas.List.{drop-drop, drop_more, length-map}
 use Rattle.nesc_tokens.specs.declared.splice.SourceByte.{SourceByte}
 use Rattle.nesc_tokens.specs.Splices.{line_behind, col_behind, placed, spliced, splice_len, source_of}
@@ -15,6 +17,18 @@ no_splice_from line col (b ∷ bs) none =
 
 pub read_as_it_stands : (text : List ℕ) → ((k : ℕ) → k < length text → splice_len (drop k text) ≡ 0) → source_of text ≡ placed 1 1 text
 read_as_it_stands text none = no_splice_from 1 1 text none
+
+-- no splice begins with another byte than a backslash
+no_splice_at : (a : ℕ) (rest : List ℕ) → nat_eq a 92 ≡ false → splice_len (a ∷ rest) ≡ 0
+no_splice_at a [] other = refl
+no_splice_at a (b ∷ []) other = rw other refl
+no_splice_at a (b ∷ c ∷ _) other = rw other refl
+
+pub no_splice_without : (text : List ℕ) → list_any (λ b. nat_eq b 92) text ≡ false → (k : ℕ) → splice_len (drop k text) ≡ 0
+no_splice_without [] none zero = refl
+no_splice_without [] none (suc k) = refl
+no_splice_without (a ∷ rest) none zero = no_splice_at a rest (or_parts _ _ none).0
+no_splice_without (a ∷ rest) none (suc k) = no_splice_without rest (or_parts (nat_eq a 92) _ none).1 k
 
 bytes_placed : (line col : ℕ) (text : List ℕ) → bytes_of (placed line col text) ≡ text
 bytes_placed line col [] = refl

@@ -68,16 +68,10 @@ pub fn source_bytes(alloc: Global, text: &[u8]) -> Result<Vec<SourceByte>, NoMem
     Ok(source)
 }
 
-/// Whether a line splice may stand in a text: where none does, its bytes are read as they stand.
+/// Whether a line splice may stand in a text. Each begins with a backslash; where there is none, the bytes are read as they
+/// stand.
 pub fn has_splice(text: &[u8]) -> bool
     ensures { result ≡ false → source_of text.now ≡ placed 1 1 text.now }
 {
-    let mut at = 0;
-    while at < text.len() {
-        if splice_len(&text[at..]) > 0 {
-            return true;
-        }
-        at += 1;
-    }
-    false
+    text.contains(&b'\\')
 }
