@@ -9,7 +9,7 @@ use Rattle.msp_runtime.specs.Emitted.{operation_fns}
 use Rattle.code_bytes.specs.Bytes.{most_in, most_of}
 use Rattle.code_bytes.specs.Laws.{FixedCodeIsSmall, pieces}
 
-operation_bytes : most_of operation_fns ≡ 2310
+pub operation_bytes : most_of operation_fns ≡ 2310
 operation_bytes = refl
 
 reset_bytes : (boot : ℕ) → most_in (reset_of boot).items ≡ 16
@@ -26,10 +26,10 @@ line_bytes None = let e = without_handler in omega (arith, e)
 line_bytes (Some f) = let e = with_handler f in omega (arith, e)
 
 module _ (handlers : List (ℕ × ℕ)) where
-  abbrev line : ℕ → CodeFn
+  abbrev pub line : ℕ → CodeFn
   line v = handler_of (handler_in handlers v)
 
-  lines_bytes : (vs : List ℕ) → most_of (map line vs) ≤ 60 * length vs
+  pub lines_bytes : (vs : List ℕ) → most_of (map line vs) ≤ 60 * length vs
   lines_bytes [] = omega arith
   lines_bytes (v ∷ vs) =
       let s = sum_by-cons (λ (f : CodeFn). most_in f.items) (line v) (map line vs) in

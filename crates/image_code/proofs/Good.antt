@@ -63,6 +63,12 @@ pub data Stands (p : Program) (routines : List CodeFn) (f : ℕ) : Type 0 where
   at_reset : f ≡ reset_place p → slice_index_or (image_code p (all_code (lowered p)) routines) f no_code ≡ reset_of p.boot → Stands p routines f
   at_line : (v : ℕ) → v < 8 → f ≡ reset_place p + (v + 1) → slice_index_or (image_code p (all_code (lowered p)) routines) f no_code ≡ line_of p v → Stands p routines f
 
+-- what a range names
+pub in_range : (s k f : ℕ) → Names (range_with_len s k) f → (v : ℕ) × (v < k) × (f ≡ s + v)
+in_range s zero f (i, lt, e) = absurd (omega (arith, lt))
+in_range s (suc k) f (zero, lt, e) = (0, omega arith, omega (arith, e))
+in_range s (suc k) f (suc i, lt, e) = let r = in_range (s + 1) k f (i, omega (arith, lt), e) in (suc r.0, (let x = r.1 in omega (arith, x)), (let y = r.2 in omega (arith, y)))
+
 module _ (p : Program) (well : IsWellFormed p) (ranked : HasNoCycle p) (short : IsShort p) (routines : List CodeFn) (are : AreRoutines (lowered p).checks routines) where
   abbrev c : MidCode
   c = lowered p
@@ -248,12 +254,7 @@ module _ (p : Program) (well : IsWellFormed p) (ranked : HasNoCycle p) (short : 
   -- ---- all code
 
   pub line_named : (f : ℕ) → Names (lines_of p) f → (v : ℕ) × (v < 8) × (f ≡ reset_place p + 1 + v)
-  line_named f m = named (reset_place p + 1) 8 m
-    where
-      named : (s k : ℕ) → Names (range_with_len s k) f → (v : ℕ) × (v < k) × (f ≡ s + v)
-      named s zero (i, lt, e) = absurd (omega (arith, lt))
-      named s (suc k) (zero, lt, e) = (0, omega arith, omega (arith, e))
-      named s (suc k) (suc i, lt, e) = let r = named (s + 1) k (i, omega (arith, lt), e) in (suc r.0, (let x = r.1 in omega (arith, x)), (let y = r.2 in omega (arith, y)))
+  line_named f m = in_range (reset_place p + 1) 8 f m
 
   pub good_code : IsCountable code → IsGoodCode code (lines_of p) (reset_place p)
   good_code few = record {

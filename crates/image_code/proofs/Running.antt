@@ -163,7 +163,7 @@ module _ (p : Program) (well : IsWellFormed p) (ranked : HasNoCycle p) (short : 
 
 -- ---- a handler's line is one of eight
 
-line_of_handler : (handlers : List (ℕ × ℕ)) (v f : ℕ) → All (λ h. h.0 < 8) handlers → handler_in handlers v ≡ Some f → v < 8
+pub line_of_handler : (handlers : List (ℕ × ℕ)) (v f : ℕ) → All (λ h. h.0 < 8) handlers → handler_in handlers v ≡ Some f → v < 8
 line_of_handler [] v f all e = absurd (cc)
 line_of_handler (h ∷ handlers) v f all e = by (h.0 == v) refl e (line_of_handler handlers v f (All-tail (λ (k : ℕ × ℕ). k.0 < 8) h handlers all))
   where
@@ -173,13 +173,13 @@ line_of_handler (h ∷ handlers) v f all e = by (h.0 == v) refl e (line_of_handl
 
 -- ---- data
 
-data_end_even : (m : ℕ) → even (0x1100 + rounded m) ≡ 0x1100 + rounded m
+pub data_end_even : (m : ℕ) → even (0x1100 + rounded m) ≡ 0x1100 + rounded m
 data_end_even m = omega arith
 
-data_behind : (m : ℕ) → m ≤ 0x1100 + rounded (m - 0x1100)
+pub data_behind : (m : ℕ) → m ≤ 0x1100 + rounded (m - 0x1100)
 data_behind m = omega arith
 
-fits_memory : (bytes stack other : ℕ) → bytes + stack ≤ 10240 → other ≡ stack → 0x1100 + bytes + other ≤ 0x3900
+pub fits_memory : (bytes stack other : ℕ) → bytes + stack ≤ 10240 → other ≡ stack → 0x1100 + bytes + other ≤ 0x3900
 fits_memory bytes stack other h e = omega (arith, h, e)
 
 -- ---- the image

@@ -37,21 +37,21 @@ use Rattle.image_code.proofs.Selected.{called_are, callees_are}
 use Rattle.image_code.proofs.Whole.{are_routines}
 use Rattle.image_sizes.specs.StackWeight.{IsBase, IsChain, IsHandler, IsHeaviest, called_by, calls_of_body, chain_weight, weight_of, weight_of_body}
 
-no_names : (g : ℕ) → Names [] g → ⊥
+pub no_names : (g : ℕ) → Names [] g → ⊥
 no_names g (i, lt, e) = omega (arith, lt)
 
-one_name : (f g : ℕ) → Names (f ∷ []) g → g ≡ f
+pub one_name : (f g : ℕ) → Names (f ∷ []) g → g ≡ f
 one_name f g (zero, lt, e) = sym e
 one_name f g (suc i, lt, e) = absurd (omega (arith, lt))
 
 -- a body of the list
-there : (bs : List Body) (k : ℕ) → k < length bs → (b : Body) × (slice_get bs k ≡ Some b)
+pub there : (bs : List Body) (k : ℕ) → k < length bs → (b : Body) × (slice_get bs k ≡ Some b)
 there [] k lt = absurd (omega (arith, lt))
 there (b ∷ bs) zero lt = (b, refl)
 there (b ∷ bs) (suc k) lt = there bs k (omega (arith, lt))
 
 -- the handler of a line is a handler
-handles : (hs : List (ℕ × ℕ)) (v f : ℕ) → handler_in hs v ≡ Some f → (k : ℕ) × (line : ℕ) × (slice_get hs k ≡ Some (line, f))
+pub handles : (hs : List (ℕ × ℕ)) (v f : ℕ) → handler_in hs v ≡ Some f → (k : ℕ) × (line : ℕ) × (slice_get hs k ≡ Some (line, f))
 handles [] v f e = absurd (cc)
 handles (h ∷ hs) v f e = by (h.0 == v) (handles hs v f) e
   where

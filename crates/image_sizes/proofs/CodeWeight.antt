@@ -25,17 +25,17 @@ use Rattle.image_sizes.proofs.Bounds.{AreBelow, IsBelow, all_below, both_below, 
 
 -- ---- functions with all jumps in their longer form
 
-abbrev most : CodeFn → ℕ
+abbrev pub most : CodeFn → ℕ
 most f = most_in f.items
 
-own_below : (fs : List CodeFn) → AreBelow fs (map most fs)
+pub own_below : (fs : List CodeFn) → AreBelow fs (map most fs)
 own_below [] = tt
 own_below (f ∷ fs) = ((λ sizes h. items_within f.items sizes h), own_below fs)
 
-abbrev all_of : List ℕ → ℕ
+abbrev pub all_of : List ℕ → ℕ
 all_of ns = sum_by (λ n. n) ns
 
-own_sum : (fs : List CodeFn) → all_of (map most fs) ≡ most_of fs
+pub own_sum : (fs : List CodeFn) → all_of (map most fs) ≡ most_of fs
 own_sum [] = omega arith
 own_sum (f ∷ fs) =
     let a = sum_by-cons (λ (n : ℕ). n) (most f) (map most fs) in
@@ -45,13 +45,13 @@ own_sum (f ∷ fs) =
 
 -- ---- checks
 
-abbrev check_most : Check → ℕ
+abbrev pub check_most : Check → ℕ
 check_most check = 24 * length check.runs + 62
 
-check_below : (check : Check) → IsBelow (check_fn check) (check_most check)
+pub check_below : (check : Check) → IsBelow (check_fn check) (check_most check)
 check_below check = λ sizes h. checks_are_small check sizes h
 
-checks_sum : (p : Program) (ts : List Ty) → all_of (map check_most (map (check_for p) ts)) ≡ 24 * sum_by (λ (t : Ty). length (runs_of p t)) ts + 62 * length ts
+pub checks_sum : (p : Program) (ts : List Ty) → all_of (map check_most (map (check_for p) ts)) ≡ 24 * sum_by (λ (t : Ty). length (runs_of p t)) ts + 62 * length ts
 checks_sum p [] = omega arith
 checks_sum p (t ∷ ts) =
     let a = sum_by-cons (λ (n : ℕ). n) (check_most (check_for p t)) (map check_most (map (check_for p) ts)) in

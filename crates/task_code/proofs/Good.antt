@@ -2,7 +2,7 @@
 use Rattle.std.proofs.Common.{◌≡◌, ◌⊎◌, ℕ, zero, suc, ◌+◌, ◌^◌, ◌<◌, ◌≤◌, true, false, cond, nat_lt, List, [], ◌∷◌, length, Option, Some, None, refl, sym, ap, subst, ◌∙◌, arith}
 use mathlib.Core.Logic.{inl, inr}
 use Rattle.std.specs.Prelude.{slice_get, slice_index_or, if◌then◌else◌}
-use Rattle.std.specs.List.{AllByRecursion, range_with_len}
+use Rattle.std.specs.List.{AllByRecursion}
 use Rattle.std.proofs.lemmas.Bool.{cases_lt}
 use Rattle.std.proofs.lemmas.Bool.Decides.{nat_tests}
 use Rattle.nesc_core.specs.Plain.{Program}
@@ -24,7 +24,7 @@ use Rattle.task_pieces.specs.Loop.{loop_of}
 use Rattle.program_image.specs.Image.{functions_of}
 use Rattle.program_image.specs.Order.{image_code, line_of, reset_place}
 use Rattle.image_code.specs.Code.{IsCountable}
-use Rattle.image_code.proofs.Good.{AreRoutines}
+use Rattle.image_code.proofs.Good.{AreRoutines, in_range}
 use Rattle.image_code.proofs.Good as plain
 use Rattle.image_code.proofs.Labels.{each_at, each_named}
 use Rattle.image_code.proofs.Pieces.{handler_well}
@@ -48,11 +48,6 @@ found (Some f) = (refl, tt)
 
 names_nothing : (xs : List ℕ) → xs ≡ [] → (x : ℕ) → Names xs x → ⊥
 names_nothing xs none x m = each_named (λ (y : ℕ). ⊥) xs (subst (AllByRecursion (λ (y : ℕ). ⊥)) (sym none) tt) x m
-
-in_range : (s k f : ℕ) → Names (range_with_len s k) f → (v : ℕ) × (v < k) × (f ≡ s + v)
-in_range s zero f (i, lt, e) = absurd (omega (arith, lt))
-in_range s (suc k) f (zero, lt, e) = (0, omega arith, omega (arith, e))
-in_range s (suc k) f (suc i, lt, e) = let r = in_range (s + 1) k f (i, omega (arith, lt), e) in (suc r.0, (let x = r.1 in omega (arith, x)), (let y = r.2 in omega (arith, y)))
 
 -- ---- numbers by place
 

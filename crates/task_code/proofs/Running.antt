@@ -1,9 +1,7 @@
 -- Where the code of a program with tasks is laid out and fits, the mote does what the program does.
-use Rattle.std.proofs.Common.{◌≡◌, ℕ, zero, suc, ◌+◌, ◌-◌, ◌*◌, ◌<◌, ◌≤◌, Bool, true, false, cond, List, [], ◌∷◌, length, Option, Some, None, All, refl, sym, ap, subst, ◌∙◌, arith}
-use Rattle.std.specs.Prelude.{◌==◌, slice_get}
-use Rattle.std.proofs.lemmas.Bool.{eqb-true}
+use Rattle.std.proofs.Common.{◌≡◌, ℕ, zero, suc, ◌+◌, ◌-◌, ◌*◌, ◌<◌, ◌≤◌, List, [], ◌∷◌, length, Option, Some, None, refl, sym, ap, subst, ◌∙◌, arith}
+use Rattle.std.specs.Prelude.{slice_get}
 use Rattle.std.proofs.lemmas.Option.{same_Some}
-use Rattle.std.proofs.lemmas.List.Elements.{All-head, All-tail}
 use Rattle.std.proofs.lemmas.List.{get_or-map, length-map}
 use Rattle.std.proofs.lemmas.List.FromFn.{get_or-range_with_len, length-range_with_len}
 use Rattle.mote_devices.specs.declared.state.BoardState.{BoardState}
@@ -18,7 +16,6 @@ use Rattle.preempt_core.specs.Allowed.{Allowed}
 use Rattle.msp_isa.specs.Image.{image_map}
 use Rattle.msp_isa.specs.declared.code.CodeFn.{CodeFn}
 use Rattle.msp_isa.specs.Stands.{no_code}
-use Rattle.msp430_cpu.specs.Cpu.{even}
 use Rattle.mid_code.specs.declared.code.MidCode.{MidCode}
 use Rattle.mid_code.specs.declared.instr.Mid.{Mid}
 use Rattle.mid_code.specs.declared.instr.Mid.TheVariants.{Call, Help}
@@ -27,7 +24,7 @@ use Rattle.mid_code.specs.Machine.{fn_of, no_fn}
 use Rattle.lower_stmt.specs.Bodies.{lowered}
 use Rattle.lower_pace.specs.Pace.{own_of}
 use Rattle.code_pieces.specs.Pieces.{functions, line_frame}
-use Rattle.msp_select.specs.Frames.{count_pushed, own_bytes, rounded}
+use Rattle.msp_select.specs.Frames.{count_pushed, own_bytes}
 use Rattle.msp_select.specs.Select.{routine_of}
 use Rattle.msp_select.specs.Sound.{IsDeep, IsDeeper}
 use Rattle.msp_layout.specs.Deep.{AreDepths, HoldsDepths}
@@ -43,6 +40,7 @@ use Rattle.program_image.specs.Image.{functions_of, homes_of}
 use Rattle.program_image.specs.Order.{AreFunctions}
 use Rattle.program_image.proofs.Roots.{element}
 use Rattle.image_code.proofs.Good.{AreRoutines}
+use Rattle.image_code.proofs.Running.{data_behind, data_end_even, fits_memory, line_of_handler}
 use Rattle.image_code.proofs.Selected.{call_named, help_named, help_place}
 use Rattle.image_code.proofs.Whole.{are_routines}
 use Rattle.task_image.specs.Lean.{IsLeanBuiltOf, LeanImagesRun, limits_of}
@@ -198,27 +196,6 @@ module _ (p : Program) (h : IsCompilable p) (routines : List CodeFn) (are : AreR
 
     pub handler_left : (v f : ℕ) → v < 8 → handler_in p.handlers v ≡ Some f → 26 + deep f ≤ left
     handler_left v f lt e = let m = holds (loop_place p + (v + 1)) (line_named v lt) in let r = boot_below in let l = line_with v lt f e in omega (arith, m, r, l)
-
--- ---- a handler's line is one of eight
-
-line_of_handler : (handlers : List (ℕ × ℕ)) (v f : ℕ) → All (λ h. h.0 < 8) handlers → handler_in handlers v ≡ Some f → v < 8
-line_of_handler [] v f all e = absurd (cc)
-line_of_handler (h ∷ handlers) v f all e = by (h.0 == v) refl e (line_of_handler handlers v f (All-tail (λ (k : ℕ × ℕ). k.0 < 8) h handlers all))
-  where
-    by : (b : Bool) → (h.0 == v) ≡ b → cond b (Some h.1) (handler_in handlers v) ≡ Some f → (handler_in handlers v ≡ Some f → v < 8) → v < 8
-    by true same e later = let is = eqb-true h.0 v same in let lt = All-head (λ (k : ℕ × ℕ). k.0 < 8) h handlers all in omega (arith, is, lt)
-    by false same e later = later e
-
--- ---- data
-
-data_end_even : (m : ℕ) → even (0x1100 + rounded m) ≡ 0x1100 + rounded m
-data_end_even m = omega arith
-
-data_behind : (m : ℕ) → m ≤ 0x1100 + rounded (m - 0x1100)
-data_behind m = omega arith
-
-fits_memory : (bytes stack other : ℕ) → bytes + stack ≤ 10240 → other ≡ stack → 0x1100 + bytes + other ≤ 0x3900
-fits_memory bytes stack other h e = omega (arith, h, e)
 
 -- ---- the image
 

@@ -1,5 +1,5 @@
 -- The functions along a path of calls hold less on the stack than the frames of the program's bodies weigh, but for what a post calls.
-use Rattle.std.proofs.Common.{◌≡◌, ◌⊎◌, ℕ, zero, suc, ◌+◌, ◌*◌, ◌/◌, ◌%◌, ◌<◌, ◌≤◌, List, [], ◌∷◌, length, Some, refl, sym, ap, subst, ◌∙◌, arith}
+use Rattle.std.proofs.Common.{◌≡◌, ◌⊎◌, ℕ, ◌+◌, ◌*◌, ◌/◌, ◌%◌, ◌<◌, ◌≤◌, List, [], ◌∷◌, length, Some, sym, ap, subst, ◌∙◌, arith}
 use mathlib.Core.Logic.{inl, inr}
 use Rattle.std.specs.Prelude.{Contains, slice_get}
 use Rattle.std.specs.List.{AllByRecursion}
@@ -34,20 +34,12 @@ use Rattle.image_code.proofs.Labels.{each_named}
 use Rattle.image_code.proofs.Selected.{called_are, callees_are}
 use Rattle.image_code.proofs.Whole.{are_routines}
 use Rattle.image_sizes.specs.StackWeight.{IsChain, called_by, calls_of_body, chain_weight, weight_of, weight_of_body}
+use Rattle.image_sizes.proofs.Chains.{no_names, there}
 use Rattle.task_image.specs.Order.{lone_place}
 use Rattle.task_code.specs.Code.{code_of}
 use Rattle.task_code.specs.Laws.{IsCompilable}
 use Rattle.task_code.proofs.Places.{Stands, at_line, at_lone, at_loop, long, routine, selected, selected_at, stands}
 use Rattle.task_sizes.proofs.Calls.{kept_call}
-
-no_names : (g : ℕ) → Names [] g → ⊥
-no_names g (i, lt, e) = omega (arith, lt)
-
--- a body of the list
-there : (bs : List Body) (k : ℕ) → k < length bs → (b : Body) × (slice_get bs k ≡ Some b)
-there [] k lt = absurd (omega (arith, lt))
-there (b ∷ bs) zero lt = (b, refl)
-there (b ∷ bs) (suc k) lt = there bs k (omega (arith, lt))
 
 -- what a path holds, beside a chain of bodies; behind the chain a post may hold 136 bytes
 pub record IsLight (p : Program) (f bytes : ℕ) : Type 0 where

@@ -1,43 +1,37 @@
 -- The code of an image with tasks beside the weight of its program.
-use Rattle.std.proofs.Common.{◌≡◌, ℕ, ◌+◌, ◌*◌, ◌≤◌, List, [], ◌∷◌, ◌++◌, length, map, sum_by, All, arith, length-append}
+use Rattle.std.proofs.Common.{ℕ, ◌+◌, ◌*◌, ◌≤◌, List, [], ◌∷◌, ◌++◌, length, map, sum_by, All, arith, length-append}
 use Rattle.std.specs.List.{flat_map}
-use Rattle.std.proofs.lemmas.List.{length-map}
 use Rattle.std.proofs.lemmas.List.Elements.{All-head, All-tail}
 use Rattle.std.proofs.lemmas.List.Sums.{sum_by-append, sum_by-cons}
 use Rattle.nesc_core.specs.Plain.{Ty, Body, Program}
 use Rattle.nesc_core.specs.Derefs.{derefs, stmt_derefs}
 use Rattle.nesc_core.specs.Nodes.{body_nodes_of, nodes_of}
-use Rattle.nesc_core.specs.Parts.{runs_of}
 use Rattle.nesc_core.specs.WellFormed.{IsBody, IsWellFormed}
 use Rattle.mid_code.specs.declared.code.Check.{Check}
 use Rattle.mid_code.specs.declared.code.MidCode.{MidCode}
-use Rattle.lower_expr.specs.Code.{check_for}
 use Rattle.lower_stmt.specs.Bodies.{checks_of, lowered, mid_fn_of}
 use Rattle.msp_isa.specs.declared.code.CodeFn.{CodeFn}
 use Rattle.msp_checks.specs.Checks.{check_fn, check_fns}
 use Rattle.msp_runtime.specs.Emitted.{operation_fns}
 use Rattle.select_emitter.specs.Code.{all_code}
 use Rattle.select_emitter.specs.Code as select
-use Rattle.code_bytes.specs.Bytes.{most_in, most_of}
-use Rattle.code_bytes.proofs.Within.{items_within}
-use Rattle.check_bytes.proofs.Checks.{checks_are_small}
+use Rattle.code_bytes.specs.Bytes.{most_of}
+use Rattle.code_bytes.proofs.Fixed.{operation_bytes}
 use Rattle.lean_pace.specs.Lean.{IsLean, IsLeanStmt}
 use Rattle.lean_pace.proofs.Kernel.{kernel_is_lean, ranges_same}
 use Rattle.body_bytes.proofs.Bodies.{body_bytes, function_bytes}
 use Rattle.range_sums.proofs.Few.{checks_few}
 use Rattle.range_sums.proofs.Sums.{runs_ranges}
 use Rattle.task_queue.specs.Kernel.{kernel_program, pop_body, posting_body, queue_body}
-use Rattle.image_sizes.proofs.Bounds.{AreBelow, IsBelow, all_below, both_below, sum_below}
+use Rattle.image_sizes.proofs.Bounds.{all_below, both_below, sum_below}
+use Rattle.image_sizes.proofs.CodeWeight.{check_below, check_most, checks_sum, most, own_below, own_sum}
 use Rattle.task_image.specs.Order.{pieces_of}
 use Rattle.task_code.specs.Code.{code_of}
 use Rattle.task_sizes.specs.Laws.{CodeIsWithinWeight}
 use Rattle.task_sizes.proofs.Kernel.{pop_costs, queue_costs}
-use Rattle.task_sizes.proofs.Loop.{operation_bytes, pieces_bytes}
+use Rattle.task_sizes.proofs.Loop.{pieces_bytes}
 use Rattle.task_sizes.proofs.Posts.{stmt_posts}
 use Rattle.task_sizes.proofs.Tasks.{tasks_few}
-
-abbrev most : CodeFn → ℕ
-most f = most_in f.items
 
 -- ---- the functions of the kernel's bodies
 
@@ -107,40 +101,6 @@ module _ (p : Program) (few : length p.tasks ≤ 254) (c : MidCode) (checks : Li
 of_bodies : (p : Program) → length p.tasks ≤ 254 → IsWellFormed (kernel_program p) → IsLean p
     → most_of (all_code (lowered (kernel_program p))) + 62 * length (derefs (kernel_program p)) + 10 * length p.bodies ≤ 96 * nodes_of p + 1140
 of_bodies p few formed lean = kernel_bytes p few (lowered (kernel_program p)) (checks_of (kernel_program p)) p.bodies formed.bodies (kernel_is_lean p lean).bodies
-
--- ---- functions with all jumps in their longer form
-
-own_below : (fs : List CodeFn) → AreBelow fs (map most fs)
-own_below [] = tt
-own_below (f ∷ fs) = ((λ sizes h. items_within f.items sizes h), own_below fs)
-
-abbrev all_of : List ℕ → ℕ
-all_of ns = sum_by (λ n. n) ns
-
-own_sum : (fs : List CodeFn) → all_of (map most fs) ≡ most_of fs
-own_sum [] = omega arith
-own_sum (f ∷ fs) =
-    let a = sum_by-cons (λ (n : ℕ). n) (most f) (map most fs) in
-    let b = sum_by-cons most f fs in
-    let h = own_sum fs in
-    omega (arith, a, b, h)
-
--- ---- checks
-
-abbrev check_most : Check → ℕ
-check_most check = 24 * length check.runs + 62
-
-check_below : (check : Check) → IsBelow (check_fn check) (check_most check)
-check_below check = λ sizes h. checks_are_small check sizes h
-
-checks_sum : (p : Program) (ts : List Ty) → all_of (map check_most (map (check_for p) ts)) ≡ 24 * sum_by (λ (t : Ty). length (runs_of p t)) ts + 62 * length ts
-checks_sum p [] = omega arith
-checks_sum p (t ∷ ts) =
-    let a = sum_by-cons (λ (n : ℕ). n) (check_most (check_for p t)) (map check_most (map (check_for p) ts)) in
-    let b = sum_by-cons (λ (u : Ty). length (runs_of p u)) t ts in
-    let n = length-map {B = ℕ × ℕ} (runs_of p t) (λ r. (r.first, r.count)) in
-    let h = checks_sum p ts in
-    omega (arith, a, b, n, h)
 
 -- ---- the law
 

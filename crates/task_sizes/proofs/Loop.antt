@@ -1,10 +1,9 @@
--- The bytes of the code that stands round the functions of a kernel: the operations, a lone RET, the loop of tasks and the lines.
-use Rattle.std.proofs.Common.{◌≡◌, ℕ, suc, ◌+◌, ◌*◌, ◌≤◌, false, List, [], ◌∷◌, ◌++◌, length, map, Option, Some, None, refl, arith}
+-- The bytes of the code that stands behind the functions of a kernel: a lone RET, the loop of tasks and the lines.
+use Rattle.std.proofs.Common.{◌≡◌, ℕ, suc, ◌+◌, ◌*◌, ◌≤◌, false, List, [], ◌∷◌, ◌++◌, length, map, refl, arith}
 use Rattle.std.specs.Prelude.{pos}
 use Rattle.std.specs.List.{range_with_len}
 use Rattle.std.proofs.lemmas.List.Sums.{sum_by-append, sum_by-cons}
 use Rattle.nesc_core.specs.Plain.{Program}
-use Rattle.core_meaning.specs.SourceOf.{handler_in}
 use Rattle.msp_isa.specs.declared.code.CodeFn.{CodeFn}
 use Rattle.msp_isa.specs.declared.code.Item.{Item}
 use Rattle.msp_isa.specs.declared.code.Item.TheVariants as item
@@ -12,17 +11,14 @@ use Rattle.msp_isa.specs.declared.instr.Cond.TheVariants.{Jmp, Jne}
 use Rattle.msp_isa.specs.declared.instr.Instr.TheVariants.{One, Jump}
 use Rattle.msp_isa.specs.declared.instr.Op1.TheVariants.{Call}
 use Rattle.msp_isa.specs.declared.instr.Operand.TheVariants.{Reg}
-use Rattle.code_pieces.specs.Pieces.{handler_of, open_gate}
+use Rattle.code_pieces.specs.Pieces.{open_gate}
 use Rattle.preempt_tasks.specs.Bodies.{compare}
 use Rattle.preempt_tasks.specs.Laid.{choice_items, loop_items}
 use Rattle.task_pieces.specs.Loop.{loop_of, turn_items}
 use Rattle.task_queue.specs.Kernel.{kernel}
 use Rattle.task_image.specs.Order.{lone, lone_place, pieces_of}
-use Rattle.msp_runtime.specs.Emitted.{operation_fns}
 use Rattle.code_bytes.specs.Bytes.{most_bytes, most_in, most_of}
-
-pub operation_bytes : most_of operation_fns ≡ 2310
-operation_bytes = refl
+use Rattle.code_bytes.proofs.Fixed.{line, lines_bytes}
 
 lone_bytes : most_in lone.items ≡ 2
 lone_bytes = refl
@@ -60,29 +56,6 @@ loop_bytes boot pop none tasks =
     let h2 = choices_bytes 0 tasks in
     let h3 = end_bytes in
     omega (arith, e1, e2, h1, h2, h3)
-
--- ---- the lines
-
-without_handler : most_in (handler_of None).items ≡ 56
-without_handler = refl
-
-with_handler : (f : ℕ) → most_in (handler_of (Some f)).items ≡ 60
-with_handler f = refl
-
-line_bytes : (handler : Option ℕ) → most_in (handler_of handler).items ≤ 60
-line_bytes None = let e = without_handler in omega (arith, e)
-line_bytes (Some f) = let e = with_handler f in omega (arith, e)
-
-module _ (handlers : List (ℕ × ℕ)) where
-  abbrev line : ℕ → CodeFn
-  line v = handler_of (handler_in handlers v)
-
-  lines_bytes : (vs : List ℕ) → most_of (map line vs) ≤ 60 * length vs
-  lines_bytes [] = omega arith
-  lines_bytes (v ∷ vs) = add _ _ _ (length vs) (sum_by-cons (λ (f : CodeFn). most_in f.items) (line v) (map line vs)) (line_bytes (handler_in handlers v)) (lines_bytes vs)
-    where
-      add : (all first rest n : ℕ) → all ≡ first + rest → first ≤ 60 → rest ≤ 60 * n → all ≤ 60 * suc n
-      add all first rest n s one more = omega (arith, s, one, more)
 
 -- ---- the pieces
 

@@ -1,5 +1,5 @@
 -- The stack of the loop of tasks and that of a line, beside the program's weights.
-use Rattle.std.proofs.Common.{◌≡◌, ℕ, zero, suc, ◌+◌, ◌<◌, ◌≤◌, ◌==◌, Bool, true, false, cond, List, [], ◌∷◌, length, Option, Some, None, refl, sym, ap, subst, ◌∙◌, arith}
+use Rattle.std.proofs.Common.{◌≡◌, ℕ, zero, suc, ◌+◌, ◌<◌, ◌≤◌, List, [], ◌∷◌, length, Option, Some, None, refl, sym, ap, subst, ◌∙◌, arith}
 use mathlib.Core.Logic.{inl, inr}
 use Rattle.std.specs.Prelude.{slice_get, slice_index_or}
 use Rattle.std.proofs.lemmas.Option.{slice_get-get_or, slice_get_within}
@@ -19,27 +19,12 @@ use Rattle.program_image.proofs.Roots.{handler_begins, root_body}
 use Rattle.task_pieces.specs.Loop.{loop_of}
 use Rattle.image_code.specs.Laws.{CanBeChecked}
 use Rattle.image_sizes.specs.StackWeight.{IsBase, IsHandler, IsHeaviest}
+use Rattle.image_sizes.proofs.Chains.{handles, no_names, one_name}
 use Rattle.task_image.specs.Order.{lone_place, loop_place}
 use Rattle.task_code.specs.Code.{code_of}
 use Rattle.task_code.specs.Laws.{IsCompilable}
 use Rattle.task_code.proofs.Places.{line_stands, lone_stands, loop_stands, pop_there}
 use Rattle.task_sizes.proofs.Chains.{are, light_path, new_ends}
-
-no_names : (g : ℕ) → Names [] g → ⊥
-no_names g (i, lt, e) = omega (arith, lt)
-
-one_name : (f g : ℕ) → Names (f ∷ []) g → g ≡ f
-one_name f g (zero, lt, e) = sym e
-one_name f g (suc i, lt, e) = absurd (omega (arith, lt))
-
--- the handler of a line is a handler
-is_handler : (hs : List (ℕ × ℕ)) (v f : ℕ) → handler_in hs v ≡ Some f → (k : ℕ) × (line : ℕ) × (slice_get hs k ≡ Some (line, f))
-is_handler [] v f e = absurd (cc)
-is_handler (h ∷ hs) v f e = by (h.0 == v) (is_handler hs v f) e
-  where
-    by : (t : Bool) → (handler_in hs v ≡ Some f → (k : ℕ) × (line : ℕ) × (slice_get hs k ≡ Some (line, f))) → cond t (Some h.1) (handler_in hs v) ≡ Some f → (k : ℕ) × (line : ℕ) × (slice_get (h ∷ hs) k ≡ Some (line, f))
-    by true later k = let same : h.1 ≡ f = cc in (0, h.0, ap (λ g. Some (h.0, g)) same)
-    by false later k = let r = later k in (suc r.0, r.1, r.2)
 
 module _ (p : Program) (h : IsCompilable p) (can : CanBeChecked (lowered (kernel p).program).checks) (grow : FramesGrow p) where
   abbrev K : Program
@@ -123,6 +108,6 @@ module _ (p : Program) (h : IsCompilable p) (can : CanBeChecked (lowered (kernel
           let same : g ≡ k = one_name k g (subst (λ (x : CodeFn). Names x.calls g) (at ∙ ap handler_of e) i.0) in
           let found = e ∙ ap Some (sym same) in
           let r = light_path p h can grow g rest (root_there g (handler_begins p v g found)) i.1 in
-          let w = heaviest.bound g r.chain (is_handler p.handlers v g found) r.is_chain in
+          let w = heaviest.bound g r.chain (handles p.handlers v g found) r.is_chain in
           let l = r.light in
           omega (arith, x, w, l)

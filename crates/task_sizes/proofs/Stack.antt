@@ -1,12 +1,12 @@
 -- Stack and memory of an image with tasks, beside the program's weights.
-use Rattle.std.proofs.Common.{◌≡◌, ℕ, zero, suc, ◌+◌, ◌<◌, ◌≤◌, sym, subst, arith}
-use Rattle.std.specs.List.{range_with_len}
+use Rattle.std.proofs.Common.{◌≡◌, ℕ, ◌+◌, ◌<◌, ◌≤◌, sym, subst, arith}
 use Rattle.nm_base.specs.declared.memory_map.TheConstants.{RAM_BYTES}
 use Rattle.nesc_core.specs.Plain.{Program}
 use Rattle.nesc_core.specs.Weights.{data_weight}
 use Rattle.kernel_laws.specs.Laws.{EachFrameGrowsLittle}
 use Rattle.msp_layout.specs.Depth.{IsPath, Names, path_bytes}
 use Rattle.msp_layout.specs.Laid.{told}
+use Rattle.image_code.proofs.Good.{in_range}
 use Rattle.task_image.specs.Order.{lines_of, loop_place}
 use Rattle.task_code.specs.Code.{code_of, data_bytes}
 use Rattle.task_sizes.specs.Laws.{MemoryIsWithinWeights, StackIsWithinWeight}
@@ -15,12 +15,7 @@ use Rattle.task_sizes.proofs.Data.{data_within}
 
 -- which line it is
 line_named : (p : Program) (f : ℕ) → Names (lines_of p) f → (v : ℕ) × (v < 8) × (f ≡ loop_place p + 1 + v)
-line_named p f m = named (loop_place p + 1) 8 m
-  where
-    named : (s k : ℕ) → Names (range_with_len s k) f → (v : ℕ) × (v < k) × (f ≡ s + v)
-    named s zero (i, lt, e) = absurd (omega (arith, lt))
-    named s (suc k) (zero, lt, e) = (0, omega arith, omega (arith, e))
-    named s (suc k) (suc i, lt, e) = let r = named (s + 1) k (i, omega (arith, lt), e) in (suc r.0, (let x = r.1 in omega (arith, x)), (let y = r.2 in omega (arith, y)))
+line_named p f m = in_range (loop_place p + 1) 8 f m
 
 pub stack_within : EachFrameGrowsLittle → StackIsWithinWeight
 stack_within grow p stack weight h can s w =
