@@ -5,3 +5,4 @@ pub mod Replacing
 pub mod Tabled
 pub mod Linked
 pub mod Grouped
+pub mod Unnamed

@@ -1,7 +1,9 @@
 -- What the code finds at a token, in the words of the definitions.
-use Rattle.std.specs.Prelude.{◌≡◌, ℕ, ◌+◌, ◌-◌, ◌*◌, ◌≤◌, ◌<◌, List, [], ◌∷◌, ◌++◌, length, map, Option, Some, None, sum_by, Bool, false, codes}
+use Rattle.std.specs.Prelude.{◌≡◌, ℕ, ◌+◌, ◌-◌, ◌*◌, ◌≤◌, ◌<◌, List, [], ◌∷◌, ◌++◌, length, map, Option, Some, None, sum_by, Bool, false, ◌&&◌, is_some, codes}
 use Rattle.nm_base.specs.declared.fault.Fault.{Fault}
 use Rattle.nm_base.specs.declared.fault.Fault.TheVariants as fault
+use Rattle.nm_base.specs.declared.token.Token.{Token}
+use Rattle.nesc_macros.specs.declared.definition.Macro.{Macro}
 use Rattle.nesc_macros.specs.declared.table.Table.{Table}
 use Rattle.nesc_macros.specs.declared.definition.NumberedToken.{NumberedToken}
 use Rattle.nesc_macros.specs.declared.definition.NumberedMacro.{NumberedMacro}
@@ -10,7 +12,7 @@ use Rattle.nesc_macros.specs.declared.marks.Mark.{Mark}
 use Rattle.nesc_macros.specs.declared.marks.Mark.TheVariants as mark
 use Rattle.nesc_macros.specs.declared.invocation.Use.{Use as UseInCode}
 use Rattle.nesc_macros.specs.declared.invocation.Use.TheVariants as found
-use Rattle.nesc_macros.specs.Invocation.{Name, Actuals, PreprocessingToken, Passes, ObjectLike, FunctionLike, Misused, actuals, is_sign, macro_of, use_of, used_as}
+use Rattle.nesc_macros.specs.Invocation.{Name, Actuals, PreprocessingToken, Passes, ObjectLike, FunctionLike, Misused, actuals, is_sign, is_word, macro_of, use_of, used_as}
 use Rattle.nesc_macros.specs.Tables.{defined_in, macros_in, name_in}
 use Rattle.nesc_macros.specs.declared.hide_sets.HideSet.{HideSet}
 use Rattle.nesc_macros.specs.declared.hide_sets.Link.{Link}
@@ -60,6 +62,10 @@ IsNumbered table name None = macro_of (macros_in table) name ≡ None
 IsNumbered table name (Some c) =
     (macro_of (macros_in table) name ≡ Some c.definition.now) × (name_in (defined_in table) c.number ≡ Some c.definition.now.name)
     × (c.definition.now.name ≡ name)
+
+-- the token is a word that names a macro
+abbrev pub is_macro_name : List Macro → Token → Bool
+is_macro_name macros t = is_word t && is_some (macro_of macros t.text)
 
 -- the token t may be used as no macro, or only as this one
 abbrev pub IsCandidate : Scope → NumberedToken → Option NumberedMacro → Type 0

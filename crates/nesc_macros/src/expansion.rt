@@ -1,15 +1,18 @@
 //! The expansion of a list of tokens.
 
 ghost use Rattle.std.specs.Prelude.{◌≡◌, ◌≤◌, IfOk, IfErr, Ok};
+ghost use Rattle.std.specs.List.{list_any};
 ghost use Rattle.nm_base.specs.declared.limit.TheConstants.{MAX_TOKENS};
 ghost use Rattle.nesc_macros.specs.Numbers.{tokens_in};
 ghost use Rattle.nesc_macros.specs.Tables.{macros_in};
 ghost use Rattle.nesc_macros.specs.Expansion.{ExpandsTo, FailsTo, IsExpansionFault};
+ghost use Rattle.nesc_macros.specs.Code.{is_macro_name};
 
 use crate::definition::NumberedToken;
 use crate::frames::{Level, expand_token, resume};
 use crate::hide_sets::HideSets;
 use crate::macros::Macros;
+use crate::names::is_word;
 use crate::pending::Pending;
 use crate::table::Table;
 use nm_base::{Fault, List, NoMemory, Token};
@@ -54,6 +57,20 @@ fn expand_by(
     }
 }
 
+// Whether the token is a word that names a macro.
+fn is_macro_name(table: &Table, token: &Token) -> bool
+    ensures { result ≡ is_macro_name (macros_in table.now) token.now }
+{
+    is_word(token) && table.find(&token.text).is_some()
+}
+
+// Whether one of the tokens is a word that names a macro.
+fn has_macro_name(table: &Table, tokens: &[Token]) -> bool
+    ensures { result ≡ list_any (is_macro_name (macros_in table.now)) tokens.now }
+{
+    tokens.iter().any(|token| is_macro_name(table, token))
+}
+
 /// Expands a list of tokens. `count` is the number of tokens that were put before the scan; the replacements add theirs, also
 /// where the call is refused. Refused are a use of a macro that does not fit it (E04, at its name) and one token more than
 /// `MAX_TOKENS`.
@@ -70,5 +87,9 @@ pub fn expand_list(
     ensures refused { IfErr result (λ e. FailsTo macros.now count.old tokens.items e count.new) }
     ensures kinds { IfErr result IsExpansionFault }
 {
-    expand_by(alloc, macros.table(), count, tokens)
+    let table = macros.table();
+    if !has_macro_name(table, tokens.as_slice()) {
+        return Ok(tokens);
+    }
+    expand_by(alloc, table, count, tokens)
 }
