@@ -13,17 +13,16 @@ use Rattle.nesc_preproc.specs.OneExpansion.{OneExpansion}
 use Rattle.wire_reading.specs.declared.opener.Need.{Need}
 use Rattle.wire_reading.specs.Order.{Name}
 use Rattle.wire_reading.specs.Order as order
-use Rattle.wire_reading.specs.Told.{Told}
+use Rattle.wire_reading.specs.Told.{IsOfFiles, Told}
 use Rattle.wire_loading.specs.declared.stopped.Stopped.{Stopped}
 use Rattle.wire_loading.specs.Needs.{file_of}
 use Rattle.wire_loading.specs.Opened.{Begins, Declared, Declaring, Goes, Held, Opens, Parsed, Parsing, Preluded, ReadsAs, Scanned, Spells, main, prelude, stopped}
 use Rattle.wire_loading.specs.Places.{file_told}
-use Rattle.application_laws.specs.OneWiring.{IsAnswer}
 use Rattle.application_laws.proofs.Order.{Answers, Tells, all_one, ok_err, same_ok}
 
 -- ---- expansion
 
-expands : (e : Fault) → IsAnswer e → expansion.IsAnswer (Err e)
+expands : (e : Fault) → IsOfFiles e → expansion.IsAnswer (Err e)
 expands fault.NoMemory a = absurd a
 expands fault.ReadFault a = absurd a
 expands (fault.Refused x) a = tt
@@ -32,7 +31,7 @@ expands (fault.Limit l) a = tt
 expands (fault.TooLarge m n) a = tt
 
 module _ (one : OneExpansion) (told : Told) (old : Option Known) (name : Name) where
-  not_expanded : (ts : List Token) (e : Fault) (x y : Option Known) → Spells told old name (Ok ts) x → Spells told old name (Err e) y → IsAnswer e → ⊥
+  not_expanded : (ts : List Token) (e : Fault) (x y : Option Known) → Spells told old name (Ok ts) x → Spells told old name (Err e) y → IsOfFiles e → ⊥
   not_expanded ts e x y h k a = ok_err h.0 e (one told old name (Ok h.0) (Err e) x y h.1 k tt (expands e a)).0
 
   same_tokens : (ts us : List Token) (x y : Option Known) → Spells told old name (Ok ts) x → Spells told old name (Ok us) y → ts ≡ us
@@ -47,12 +46,12 @@ module _ (one : OneExpansion) (told : Told) (old : Option Known) (name : Name) w
 pub record OneParsing (Parses : Parsing) : Type 0 where
   pub one_unit : (is_interface : Bool) (file : ℕ) (ts : List Token) (name : Name) (names after behind : Names) (u v : unit.Unit) → Parses is_interface file ts name names after (Ok u) → Parses is_interface file ts name names behind (Ok v) → u ≡ v
   pub one_set : (is_interface : Bool) (file : ℕ) (ts : List Token) (name : Name) (names after behind : Names) (u v : unit.Unit) → Parses is_interface file ts name names after (Ok u) → Parses is_interface file ts name names behind (Ok v) → after ≡ behind
-  pub not_refused : (is_interface : Bool) (file : ℕ) (ts : List Token) (name : Name) (names after behind : Names) (u : unit.Unit) (e : Fault) → Parses is_interface file ts name names after (Ok u) → Parses is_interface file ts name names behind (Err e) → IsAnswer e → ⊥
+  pub not_refused : (is_interface : Bool) (file : ℕ) (ts : List Token) (name : Name) (names after behind : Names) (u : unit.Unit) (e : Fault) → Parses is_interface file ts name names after (Ok u) → Parses is_interface file ts name names behind (Err e) → IsOfFiles e → ⊥
 
 pub record OneDeclaring (Declares : Declaring) : Type 0 where
   pub one_list : (file : ℕ) (ts : List Token) (names after behind : Names) (l m : List Decl) → Declares file ts names after (Ok l) → Declares file ts names behind (Ok m) → l ≡ m
   pub one_set : (file : ℕ) (ts : List Token) (names after behind : Names) (l m : List Decl) → Declares file ts names after (Ok l) → Declares file ts names behind (Ok m) → after ≡ behind
-  pub not_refused : (file : ℕ) (ts : List Token) (names after behind : Names) (l : List Decl) (e : Fault) → Declares file ts names after (Ok l) → Declares file ts names behind (Err e) → IsAnswer e → ⊥
+  pub not_refused : (file : ℕ) (ts : List Token) (names after behind : Names) (l : List Decl) (e : Fault) → Declares file ts names after (Ok l) → Declares file ts names behind (Err e) → IsOfFiles e → ⊥
 
 -- ---- one file
 
@@ -96,7 +95,7 @@ module _ (one : OneExpansion) (Parses : Parsing) (parsing : OneParsing Parses) (
 -- an application is read, or what refuses it is neither want of memory nor a read that failed
 abbrev pub Ends : {A : Type 0} → Result A Stopped → Type 0
 Ends (Ok x) = Unit {0}
-Ends (Err s) = IsAnswer s.fault
+Ends (Err s) = IsOfFiles s.fault
 
 module _ (one : OneExpansion) (Declares : Declaring) (declaring : OneDeclaring Declares) (told : Told) (h : Held) (y : Result Held Stopped) where
   abbrev Declare : Option Known → List Token → Names → Result (List Decl) Fault → Type 0

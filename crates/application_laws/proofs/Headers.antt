@@ -28,7 +28,7 @@ use Rattle.nesc_parse_types.specs.Gives.{place}
 use Rattle.nesc_parse_list.specs.Listed as listed
 use Rattle.nesc_parse_list.specs.Listed.{Lists, IsListed, follows, most, spare}
 use Rattle.unit_parsing.specs.Parsing.{Declare, Fails, IsBehind}
-use Rattle.application_laws.specs.OneWiring.{IsAnswer}
+use Rattle.wire_reading.specs.Told.{IsOfFiles}
 use Rattle.application_laws.proofs.Once.{put, decls_read, header_fine, one_place, one_value}
 
 -- ---- the tokens behind a place
@@ -145,7 +145,7 @@ module _ (file : ℕ) (ts : List Token) (names : Names) where
         let e : ts ≡ (x.before ++ (d.first ∷ [])) ++ d.others = x.cut ∙ (ap (λ (us : List Token). x.before ++ us) d.is ∙ sym (append_assoc x.before (d.first ∷ []) d.others)) in
         d.too_deep (shorter (x.before ++ (d.first ∷ [])) d.others (subst Begun e begun))
 
-    in_one : (e : Fault) → listed.Fails site.Header file ts 0 names e → IsAnswer e → ⊥
+    in_one : (e : Fault) → listed.Fails site.Header file ts 0 names e → IsOfFiles e → ⊥
     in_one (fault.Refused x) f a = f.1 decls after t
     in_one (fault.Limit l) f a = not_deep f.0
     in_one (fault.Missing n) f a = absurd f
@@ -168,9 +168,9 @@ module _ (file : ℕ) (ts : List Token) (names : Names) where
         one_place (read spare (phrase production spare) (decls_before site.Header) (place names ts)) x.decls decls (place x.after is.rest) (place after []) (others_read x.decls x.end x.after is) (header_read decls after t) in
         something_behind ts is.before is.rest x.end x.token is.cut is.ends x.stands (ap (λ (p : Place). p.rest) same)
 
-    fails : (e : Fault) → Fails file ts names e → IsAnswer e → ⊥
+    fails : (e : Fault) → Fails file ts names e → IsOfFiles e → ⊥
     fails e (Fails.in_one f) a = in_one e f a
     fails e (Fails.behind x) a = not_behind e x
 
-  pub not_refused : (decls : List Decl) (after : Names) → Declare file ts names decls after → (e : Fault) → Fails file ts names e → IsAnswer e → ⊥
+  pub not_refused : (decls : List Decl) (after : Names) → Declare file ts names decls after → (e : Fault) → Fails file ts names e → IsOfFiles e → ⊥
   not_refused decls after x e f a = fails decls after (all_spelled decls after x) e f a

@@ -2,13 +2,13 @@
 use Rattle.std.proofs.Common.{◌≡◌, Result, Ok, Err, sym, subst, ◌∙◌}
 use Rattle.nesc_preproc.specs.OneExpansion.{OneExpansion}
 use Rattle.wire_reading.specs.Order.{Name}
-use Rattle.wire_reading.specs.Told.{Told}
+use Rattle.wire_reading.specs.Told.{IsOfFiles, Told}
 use Rattle.wire_loading.specs.declared.stopped.Stopped.{Stopped}
 use Rattle.wire_loading.specs.Opened.{Held, ReadsAs}
 use Rattle.unit_parsing.specs.Parsing.{Declares, Parses, kind_of}
 use Rattle.nesc_wiring.specs.Loads.{Behind, Wiring}
 use Rattle.given_laws.specs.OneGiven.{OneGiven}
-use Rattle.application_laws.specs.OneWiring.{IsAnswer, OneWiring}
+use Rattle.application_laws.specs.OneWiring.{OneWiring}
 use Rattle.application_laws.proofs.Order.{ok_err, same_ok}
 use Rattle.application_laws.proofs.Units as units
 use Rattle.application_laws.proofs.Headers as headers
@@ -55,7 +55,7 @@ module _ (expansion : OneExpansion) (few : FewTargets) (given : OneGiven) (told 
       let same : g ≡ h = same_ok g h (read h (Ok g) a b tt) in
       behind_once few given h w v p (subst (λ (x : Held). Behind (Ok x) (Ok v)) same q)
 
-  passed_by : (w : Wiring) (s : Stopped) (o r : Result Held Stopped) → ReadsAs Declares Parses told app o → ReadsAs Declares Parses told app r → Behind o (Ok w) → Behind r (Err s) → IsAnswer s.fault → ⊥
+  passed_by : (w : Wiring) (s : Stopped) (o r : Result Held Stopped) → ReadsAs Declares Parses told app o → ReadsAs Declares Parses told app r → Behind o (Ok w) → Behind r (Err s) → IsOfFiles s.fault → ⊥
   passed_by w s (Err e) r a b p q c = ok_err w e p
   passed_by w s (Ok h) (Err t) a b p q c = ok_err h t (sym (read h (Err t) a b (subst (λ (x : Result Wiring Stopped). Ends x) q c)))
   passed_by w s (Ok h) (Ok g) a b p q c =

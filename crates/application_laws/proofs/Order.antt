@@ -4,7 +4,7 @@ use Rattle.nm_base.specs.declared.fault.Fault.{Fault}
 use Rattle.wire_reading.specs.declared.opener.Need.{Need}
 use Rattle.wire_reading.specs.Order.{Name, Answer, Reader, Goes, Each, Opening, Follows, Opened, Unless, ReadAt, ReadAll, is_known}
 use Rattle.wire_reading.proofs.Steps.{all_deeper}
-use Rattle.application_laws.specs.OneWiring.{IsAnswer}
+use Rattle.wire_reading.specs.Told.{IsOfFiles}
 
 pub ok_err : {A E : Type 0} (x : A) (e : E) → ◌≡◌ {A = Result A E} (Ok x) (Err e) → ⊥
 ok_err x e h = cc
@@ -15,12 +15,12 @@ same_ok x y h = cc
 -- what is read is neither want of memory nor a read that failed
 abbrev pub Tells : {A : Type 0} → Result A Fault → Type 0
 Tells (Ok x) = Unit {0}
-Tells (Err e) = IsAnswer e
+Tells (Err e) = IsOfFiles e
 
 module _ {State : Type 0} where
   abbrev pub Answers : Answer State → Type 0
   Answers (Ok x) = Unit {0}
-  Answers (Err e) = IsAnswer e.0
+  Answers (Err e) = IsOfFiles e.0
 
   -- beside what is read there is no other answer
   abbrev IsOne : Reader State → Type 0

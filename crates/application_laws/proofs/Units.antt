@@ -20,7 +20,7 @@ use Rattle.nesc_parse_comp.specs.Units.{IsUnit, IsOther, Fails, differs, most, p
 use Rattle.nesc_parse_comp.specs.declared.kinds.UnitKind.{UnitKind}
 use Rattle.nesc_parse_comp.specs.declared.kinds.UnitKind.TheVariants as kind
 use Rattle.nesc_parse_comp.proofs.Words.{IsNamed, component_is_named, interface_is_named}
-use Rattle.application_laws.specs.OneWiring.{IsAnswer}
+use Rattle.wire_reading.specs.Told.{IsOfFiles}
 use Rattle.application_laws.proofs.Once.{one_place, one_value, phrase_read}
 
 -- ---- the name
@@ -95,7 +95,7 @@ module _ (file : ℕ) (ts : List Token) (name : List ℕ) (names : Names) where
       cc
 
   module _ (k : UnitKind) (w : Whole k) (other : (pos : Pos) → IsOther k file ts name names pos → ⊥) where
-    fails : (e : Fault) → Fails k file ts name names e → IsAnswer e → ⊥
+    fails : (e : Fault) → Fails k file ts name names e → IsOfFiles e → ⊥
     fails (fault.Refused (r.Syntax pos)) f a = f.0.unspelled w.0 (record { levels = most; spelled = w.1 })
     fails (fault.Refused (r.LeftOut pos word)) f a = f.0.unspelled w.0 (record { levels = most; spelled = w.1 })
     fails (fault.Refused (r.WrongName pos)) f a = other pos f
@@ -109,5 +109,5 @@ module _ (file : ℕ) (ts : List Token) (name : List ℕ) (names : Names) where
     fails fault.ReadFault f a = absurd a
     fails fault.NoMemory f a = absurd a
 
-  pub not_refused : (k : UnitKind) (u : unit.Unit) (after : Names) → IsUnit k file ts name names u after → (e : Fault) → Fails k file ts name names e → IsAnswer e → ⊥
+  pub not_refused : (k : UnitKind) (u : unit.Unit) (after : Names) → IsUnit k file ts name names u after → (e : Fault) → Fails k file ts name names e → IsOfFiles e → ⊥
   not_refused k u after is = fails k (whole k u after is) (λ pos x. not_other k u (is_named k u after is) is.own pos x)

@@ -5,11 +5,11 @@ use Rattle.nesc_preproc.specs.Sources.{Known}
 use Rattle.nesc_core.specs.Plain.{Program}
 use Rattle.nesc_types.specs.Rule.{Rule}
 use Rattle.wire_reading.specs.Order.{Name}
-use Rattle.wire_reading.specs.Told.{Told}
+use Rattle.wire_reading.specs.Told.{IsOfFiles, Told}
 use Rattle.wire_loading.specs.Opened.{stopped}
 use Rattle.nesc_wiring.specs.Loads.{Wiring}
 use Rattle.application_laws.specs.OneProgram.{OneProgram}
-use Rattle.application_laws.specs.OneWiring.{IsAnswer, OneWiring}
+use Rattle.application_laws.specs.OneWiring.{OneWiring}
 use Rattle.nesc_programs.specs.Programs.{ElaboratesTo, HasProgram, HasWiring, IsStopped}
 use Rattle.nesc_programs.specs.OneApplication.{OneApplication}
 
@@ -29,7 +29,7 @@ module _ (wiring : OneWiring) (program : OneProgram) (told : Told) (app : Name) 
   same_program : (p q : Program) → HasProgram told app p → HasProgram told app q → p ≡ q
   same_program p q hp hq = ok_of p q (one_answer hp.1.wiring hq.1.wiring (Ok p) (Ok q) hp.1.loads hq.1.loads hp.1.elaborates hq.1.elaborates)
 
-  not_stopped : (p : Program) (e : Fault) (known : Option Known) → HasProgram told app p → IsStopped told app e known → IsAnswer e → ⊥
+  not_stopped : (p : Program) (e : Fault) (known : Option Known) → HasProgram told app p → IsStopped told app e known → IsOfFiles e → ⊥
   not_stopped p e known has (inl fails) answers = wiring.no_fault told app has.1.wiring (stopped e known) has.1.loads fails answers
   not_stopped p e known has (inr h) answers = err_ok e p (one_answer h.wiring has.1.wiring (Err e) (Ok p) h.loads has.1.loads h.refused has.1.elaborates)
 

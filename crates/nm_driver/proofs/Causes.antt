@@ -21,7 +21,7 @@ use Rattle.call_graph.specs.Refusals.{HasNoSyncPath, IsCycle, IsDue as IsCallFau
 use Rattle.call_graph.proofs.Chains.{falls}
 use Rattle.race_checker.specs.Computed.{report_of}
 use Rattle.race_report.specs.Limit.{IsWhy, most}
-use Rattle.application_laws.specs.OneWiring.{IsAnswer}
+use Rattle.wire_reading.specs.Told.{IsOfFiles}
 use Rattle.nesc_programs.specs.OneApplication.{OneApplication}
 use Rattle.mote_devices.specs.declared.state.BoardState.{BoardState}
 use Rattle.mote_devices.specs.declared.shown.Due.{Due}
@@ -238,7 +238,7 @@ module _ (p : Program) (ranked : HasNoCycle p) (good : HasNoSyncPath p) where
   no_refusal (refusal.NotAsync at path) h = good path h.chain.is_one
   no_refusal _ h = h
 
-  not_by_calls : (e : Fault) → IsAnswer e → IsCallFault p e → ⊥
+  not_by_calls : (e : Fault) → IsOfFiles e → IsCallFault p e → ⊥
   not_by_calls (fault.Refused r) answers h = no_refusal r h
   not_by_calls (fault.Missing name) answers h = h
   not_by_calls fault.ReadFault answers h = h
@@ -246,7 +246,7 @@ module _ (p : Program) (ranked : HasNoCycle p) (good : HasNoSyncPath p) where
   not_by_calls (fault.TooLarge room n) answers h = h
   not_by_calls fault.NoMemory answers h = answers
 
-not_by_rows : (p : Program) → length (report_of p) ≤ most → (e : Fault) → IsAnswer e → IsWhy p e → ⊥
+not_by_rows : (p : Program) → length (report_of p) ≤ most → (e : Fault) → IsOfFiles e → IsWhy p e → ⊥
 not_by_rows p few (fault.Refused r) answers h = h
 not_by_rows p few (fault.Missing name) answers h = h
 not_by_rows p few fault.ReadFault answers h = h
@@ -265,7 +265,7 @@ module _ (p : Program) (can : CanBeBuilt p ⊎ HasSmallWeights p) where
   has_room (inl built) room need cause within = built.has_room room need cause
   has_room (inr small) room need cause within = small_weights p small room need cause within
 
-  has_no_cause : (e : Fault) → IsAnswer e → IsCause p e → IsWithinWeights p e → ⊥
+  has_no_cause : (e : Fault) → IsOfFiles e → IsCause p e → IsWithinWeights p e → ⊥
   has_no_cause (fault.Refused r) answers h w = h
   has_no_cause (fault.Missing name) answers h w = h
   has_no_cause fault.ReadFault answers h w = h
@@ -273,16 +273,16 @@ module _ (p : Program) (can : CanBeBuilt p ⊎ HasSmallWeights p) where
   has_no_cause (fault.TooLarge room need) answers h w = has_room can room need h w
   has_no_cause fault.NoMemory answers h w = answers
 
-  not_unbuilt : (e : Fault) → IsAnswer e → IsUnbuilt p e → ⊥
+  not_unbuilt : (e : Fault) → IsOfFiles e → IsUnbuilt p e → ⊥
   not_unbuilt e answers h = has_no_cause e answers h.0 h.1
 
 module _ (one : OneApplication) (told : Told) (mode : Mode) (app : List ℕ) (has : HasApplication told mode app) where
-  not_refused_in : (e : Fault) → IsAnswer e → IsRefusedIn mode has.program e → ⊥
+  not_refused_in : (e : Fault) → IsOfFiles e → IsRefusedIn mode has.program e → ⊥
   not_refused_in e answers (inl due) = not_by_calls has.program has.accepted.no_cycle has.accepted.no_sync e answers due
   not_refused_in e answers (inr (inl h)) = not_by_rows has.program has.accepted.few e answers h.2
   not_refused_in e answers (inr (inr h)) = not_unbuilt has.program (has.taken h.0) e answers h.2
 
-  not_refused : (e : Fault) (known : Option Known) (program : Option Program) → IsAnswer e → IsRefused told mode app e known program → ⊥
+  not_refused : (e : Fault) (known : Option Known) (program : Option Program) → IsOfFiles e → IsRefused told mode app e known program → ⊥
   not_refused e known None answers h = one.no_fault told app has.program e known has.has h answers
   not_refused e known (Some q) answers h =
       let same = one.one told app q has.program (known, h.0) has.has in

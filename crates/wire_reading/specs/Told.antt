@@ -12,6 +12,12 @@ abbrev pub IfMissing : {A : Type 0} → Result A Fault → (List ℕ → Type 0)
 IfMissing (Err (fault.Missing name)) P = P name
 IfMissing _ P = Unit {0}
 
+-- what the files are refused for: neither want of memory nor a read that failed
+abbrev pub IsOfFiles : Fault → Type 0
+IsOfFiles fault.NoMemory = ⊥
+IsOfFiles fault.ReadFault = ⊥
+IsOfFiles _ = Unit {0}
+
 -- files were read, and the answer is a read fault or a file that is missing only where a read failed or missed it
 abbrev pub Counts : {A : Type 0} → Result A Fault → FilesSeen → FilesSeen → Type 0
 Counts r old new = IsReadBy (λ P. r ≡ Err fault.ReadFault → P) (IfMissing r) old new
