@@ -1,13 +1,21 @@
 //! One call of the top call over files and a sink in memory, on a board of five devices.
 
 use mote_devices::{Device, Leds, Radio, Sensor, Serial, Timer};
-use nm_base::{MemFiles, MemSink, NoMemory};
+use nm_base::{List, MemFiles, MemSink, Name, NoMemory};
 use nm_driver::tool;
 use std::alloc::Global;
 use std::str::from_utf8;
 
 /// More bytes than a call writes.
 const ROOM: usize = 2_000_000;
+
+/// A file in memory.
+pub fn file(alloc: Global, name: &str, text: &str) -> Result<(Name, List<u8>), NoMemory> {
+    Ok((
+        Name::new(alloc, name.as_bytes())?,
+        List::new(text.as_bytes().to_vec(alloc)?),
+    ))
+}
 
 // The words between blanks.
 fn words_of(alloc: Global, line: &str) -> Result<Vec<String>, NoMemory> {
@@ -18,7 +26,8 @@ fn words_of(alloc: Global, line: &str) -> Result<Vec<String>, NoMemory> {
     Ok(words)
 }
 
-fn status_of(
+/// The status of the call with the words of a line.
+pub fn status_of(
     alloc: Global,
     line: &str,
     files: &mut MemFiles,

@@ -1,17 +1,10 @@
 //! The traces of one image with many schedules.
 
-use crate::calls::called;
+use crate::calls::{called, file};
 use crate::repeats::numbered;
 use crate::shown::{image_lines, shown_trace};
-use nm_base::{List, MemFiles, Name, NoMemory};
+use nm_base::{MemFiles, NoMemory};
 use std::alloc::Global;
-
-fn file(alloc: Global, name: &str, text: &str) -> Result<(Name, List<u8>), NoMemory> {
-    Ok((
-        Name::new(alloc, name.as_bytes())?,
-        List::new(text.as_bytes().to_vec(alloc)?),
-    ))
-}
 
 // What is said of a run of an image with this schedule, in 4,000 slots.
 fn trace(alloc: Global, image: &str, schedule: &str) -> Result<String, NoMemory> {
