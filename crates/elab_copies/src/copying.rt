@@ -8,6 +8,7 @@ ghost use Rattle.elab_meaning.specs.View.{frozen_place_of, struct_of};
 
 use crate::places::{part_of, whole_place};
 use elab_meaning::{FrozenPlace, Step, Struct};
+use elab_operators::MAX_LEVELS;
 use nesc_core::{CoreExpr, CoreType, Field};
 use nm_base::{NoMemory, Pos};
 use std::alloc::Global;
@@ -19,7 +20,7 @@ pub struct Copying {
     pub at_value: Pos,
 }
 
-// One number or pointer.
+// One number or pointer; more parts than `MAX_LEVELS` are answered by want of memory, before they are made.
 fn copy_one(
     alloc: Global,
     c: Copying,
@@ -29,6 +30,9 @@ fn copy_one(
 ) -> Result<(), NoMemory>
     ensures { OnOk result (map expr_of out.new.items ≡ map expr_of out.old.items ++ (core.assign (frozen_place_of p.now) (core.read (frozen_place_of q.now) c.at_value) c.at ∷ [])) }
 {
+    if out.len() >= MAX_LEVELS as usize {
+        return Err(NoMemory);
+    }
     let value = CoreExpr::Read(whole_place(alloc, q)?, c.at_value);
     let value = Box::new(alloc, value)?;
     out.push(CoreExpr::Assign(whole_place(alloc, p)?, value, c.at))?;

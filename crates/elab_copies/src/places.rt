@@ -6,6 +6,7 @@ ghost use Rattle.nesc_core.specs.View.{expr_of, place_of};
 ghost use Rattle.elab_meaning.specs.View.{frozen_place_of, start_of, step_from};
 
 use elab_meaning::{FrozenPlace, Start, Step};
+use elab_operators::MAX_LEVELS;
 use elab_values::copied;
 use nesc_core::{CoreExpr, Place};
 use nm_base::{IntType, NoMemory, Pos};
@@ -55,10 +56,13 @@ pub fn copied_place(alloc: Global, p: &FrozenPlace) -> Result<FrozenPlace, NoMem
     })
 }
 
-/// A part of a place.
+/// A part of a place; one of more steps than `MAX_LEVELS` is answered by want of memory.
 pub fn part_of(alloc: Global, p: &FrozenPlace, step: Step) -> Result<FrozenPlace, NoMemory>
     ensures { IfOk result (λ r. frozen_place_of r ≡ step_from (frozen_place_of p.now) step) }
 {
+    if p.steps.len() >= MAX_LEVELS as usize {
+        return Err(NoMemory);
+    }
     behind_step(copied_place(alloc, p)?, step)
 }
 

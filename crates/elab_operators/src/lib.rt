@@ -13,4 +13,4 @@ mod prefixes;
 pub use choice::chosen;
 pub use elements::element;
 pub use operators::binary;
-pub use prefixes::{as_value, prefixed};
+pub use prefixes::{MAX_LEVELS, as_value, prefixed};

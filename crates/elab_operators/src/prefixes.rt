@@ -10,10 +10,25 @@ ghost use Rattle.elab_meaning.specs.View.{found_of, state_of, typed_of};
 use crate::comparisons::in_turn;
 use elab_meaning::{Found, Typed, Work};
 use elab_places::{addressed, decremented_place, incremented_place, on_value, read_at};
-use nesc_core::{CoreExpr, CoreType};
+use nesc_core::{CoreExpr, CoreType, expr_levels};
 use nesc_tree::PreOp;
 use nm_base::{Fault, IntType, NoMemory, Pos};
 use std::alloc::Global;
+
+/// The most levels of parts that are joined. No frame has room for as many, so a body with more is no part of a program; its tree
+/// would be let go by calls as deep as its levels, for which the native stack need not have room.
+pub const MAX_LEVELS: u32 = 3_000;
+
+// The levels of the parts when they are joined; each stands behind those before it.
+fn joined_levels(steps: &[CoreExpr]) -> u32 {
+    let mut levels: u32 = 0;
+    for step in steps {
+        levels = levels
+            .max(expr_levels(step).saturating_add(1))
+            .saturating_add(1);
+    }
+    levels
+}
 
 // Parts that come one after the other.
 fn joined_behind(
@@ -30,10 +45,13 @@ fn joined_behind(
     Ok(whole)
 }
 
-// No part is 0.
-fn joined(alloc: Global, steps: Vec<CoreExpr>) -> Result<CoreExpr, NoMemory>
+// No part is 0; parts of more levels than `MAX_LEVELS` are answered by want of memory.
+fn all_joined(alloc: Global, steps: Vec<CoreExpr>) -> Result<CoreExpr, NoMemory>
     ensures { IfOk result (λ r. expr_of r ≡ spec.joined (map expr_of steps.items)) }
 {
+    if joined_levels(steps.as_slice()) > MAX_LEVELS {
+        return Err(NoMemory);
+    }
     let mut others = steps;
     if others.as_slice().is_empty() {
         return Ok(CoreExpr::Const(IntType::I16, 0));
@@ -50,7 +68,7 @@ pub fn as_value(alloc: Global, work: &mut Work, at: Pos, f: Found) -> Result<Typ
         Found::Place(p, _, t, _) => read_at(alloc, work, at, p, t),
         Found::Value(v) => Ok(v),
         Found::Copy(steps, _, k) => Ok(Typed {
-            expr: joined(alloc, steps)?,
+            expr: all_joined(alloc, steps)?,
             ty: CoreType::Struct(k),
         }),
     }

@@ -10,13 +10,10 @@ use Rattle.nesc_core.specs.declared.tree.CoreStmt as stmt
 use Rattle.nesc_core.specs.Nodes.{body_nodes_of, expr_nodes_of, exprs_nodes_of, stmt_nodes_of, stmts_nodes_of}
 use Rattle.nesc_core.specs.Plain as plain
 use Rattle.nesc_core.specs.View.{body_of, case_of, expr_of, exprs_of, stmt_of, stmts_of}
-use Rattle.nesc_core.specs.Weights.{expr_levels, exprs_levels, stmt_atomics, stmt_levels, stmts_atomics, stmts_levels}
+use Rattle.nesc_core.specs.Weights.{expr_levels, stmt_atomics, stmt_levels, stmts_atomics, stmts_levels}
 
 pub call_is : (e : CoreExpr) (f : ℕ) (args : List CoreExpr) (at : Pos) → e ≡ Call f args at → expr_of e ≡ plain.call f (exprs_of args) at
 call_is e f args at is = ap expr_of is ∙ search (rules, expr.the_lemmas)
-
-pub levels_call : (e : CoreExpr) (f : ℕ) (args : List CoreExpr) (at : Pos) → e ≡ Call f args at → expr_levels (expr_of e) ≡ 1 + exprs_levels (exprs_of args) 0
-levels_call e f args at is = ap expr_levels (call_is e f args at is)
 
 pub nodes_call : (e : CoreExpr) (f : ℕ) (args : List CoreExpr) (at : Pos) → e ≡ Call f args at → expr_nodes_of (expr_of e) ≡ 1 + exprs_nodes_of (exprs_of args)
 nodes_call e f args at is = ap expr_nodes_of (call_is e f args at is)
@@ -42,4 +39,4 @@ nodes_more b bs = sum_by-cons body_nodes_of (body_of b) (map body_of bs)
 
 pub ruleset nodes = (nodes_call, nodes_switch)
 
-pub ruleset levels = (levels_call, levels_switch, atomics_switch)
+pub ruleset levels = (levels_switch, atomics_switch)
