@@ -1,5 +1,5 @@
 #!/usr/bin/env python3
-"""Checks that the pages are true: first sentences of files, tables of crates and definitions, outputs of examples."""
+"""Checks that the pages are true: first sentences of files, tables of crates and definitions, files that promises cite, outputs of examples."""
 import pathlib, re, subprocess, sys, tempfile, shutil
 
 top = pathlib.Path(__file__).resolve().parent.parent
@@ -13,8 +13,8 @@ for f in sources:
         faults.append(f"{f.relative_to(top)}: no first sentence")
 
 architecture = (top / "docs/ARCHITECTURE.md").read_text()
-for line in (top / "crates.txt").read_text().splitlines():
-    name, _, below = line.partition(":")
+crates = {name: below for name, _, below in (line.partition(":") for line in (top / "crates.txt").read_text().splitlines())}
+for name, below in crates.items():
     src = top / "crates" / name / "src"
     root = src / "lib.rt" if (src / "lib.rt").exists() else src / "main.rt"
     sentence = root.read_text().split("\n", 1)[0].removeprefix("//! ").rstrip(".")
@@ -25,6 +25,21 @@ named = [f"{crate}/specs/{part}.antt" for crate, parts in re.findall(r"(\w+)/spe
 specs = [f"{f.parent.parent.name}/specs/{f.name}" for f in sources if f.parent.name == "specs" and f.name not in ("Lib.antt", "formers.antt")]
 faults += [f"docs/DEFINITIONS.md: {s} stands there {named.count(s)} times" for s in sorted(specs) if named.count(s) != 1]
 faults += [f"docs/DEFINITIONS.md: there is no {s}" for s in sorted(set(named) - set(specs))]
+
+def files_cited(text):
+    """Each file below src/ or specs/ that a text cites, of the crate that is named last before it, or behind it by `of`."""
+    crate = ""
+    for path, of, name in re.findall(r"`((?:src|specs)/[^`\s]+)`(?: of (\w+))?|`[^`]*`|\b(\w+)\b", text):
+        if path:
+            before, parts, after = re.fullmatch(r"([^{]*)\{?([^}]*)\}?(.*)", path).groups() if "{" in path else (path, "", "")
+            yield from (f"{of or crate}/{before}{part}{after}" for part in parts.split(","))
+        elif name in crates:
+            crate = name
+
+
+for page in ("README.md", "docs/PROVED.md"):
+    text = " ".join((top / page).read_text().split())
+    faults += [f"{page}: there is no {file}" for file in files_cited(text) if not (top / "crates" / file).exists()]
 
 program = top / "crates/nescmote/out/nescmote"
 for wanted in sorted((top / "examples").glob("*.out")) if program.exists() else []:
