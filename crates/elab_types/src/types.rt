@@ -113,6 +113,30 @@ fn base_alone(structs: &[Struct], at: Pos, t: &CoreType) -> Result<(), Fault>
     Ok(())
 }
 
+/// The most arrays and pointers around one another in a type; what is deeper is answered by want of memory, since types are looked
+/// through by calls as deep as they are.
+const MAX_TYPE_LEVELS: usize = 3_000;
+
+fn has_at_most(t: &CoreType, levels: usize) -> bool {
+    let mut inner = t;
+    for _ in 0..=levels {
+        match inner {
+            CoreType::Array(part, _) => inner = part,
+            CoreType::Pointer(part) => inner = part,
+            CoreType::Void | CoreType::Int(_) | CoreType::Struct(_) => return true,
+        }
+    }
+    false
+}
+
+// Whether so many arrays or pointers more may stand around a type.
+fn has_room(t: &CoreType, more: usize) -> bool {
+    match MAX_TYPE_LEVELS.checked_sub(more) {
+        Some(levels) => has_at_most(t, levels),
+        None => false,
+    }
+}
+
 /// A base with its stars.
 pub fn pointers(
     alloc: Global,
@@ -126,6 +150,9 @@ pub fn pointers(
     if stars == 0 {
         base_alone(structs, at, &base)?;
         return Ok(base);
+    }
+    if !has_room(&base, usize::from(stars)) {
+        return Err(Fault::NoMemory);
     }
     base_behind(structs, at, &base)?;
     Ok(stars_on(alloc, stars, base)?)
@@ -167,6 +194,9 @@ pub fn arrays(
 ) -> Result<CoreType, Fault>
     ensures { Follows type_of result (spec.arrays (map struct_of structs.now) at (type_of part) lengths.items) }
 {
+    if !has_room(&part, lengths.len()) {
+        return Err(Fault::NoMemory);
+    }
     let mut t = part;
     let mut rest = lengths;
     'lengths: while let Some(n) = rest.pop() {
