@@ -1,6 +1,7 @@
 -- Tables of names and lists of arguments, seen through their entries.
-use Rattle.std.proofs.Common.{◌≡◌, ℕ, ◌+◌, ◌<◌, zero, suc, List, [], ◌∷◌, ◌++◌, length, map, take, drop, fold, get_or, Some, None, if◌then◌else◌, bytes_eq, ap, ◌∙◌, sym, refl, arith}
-use Rattle.std.proofs.lemmas.List.{map_more}
+use Rattle.std.proofs.Common.{◌≡◌, ℕ, ◌+◌, ◌<◌, zero, suc, List, [], ◌∷◌, ◌++◌, length, map, drop, get_or, Some, None, if◌then◌else◌, bytes_eq, ap, ◌∙◌, sym, refl, arith}
+use Rattle.std.proofs.lemmas.List.{map_push}
+use Rattle.std.proofs.lemmas.List.Sums.{fold-append}
 use Rattle.nm_base.specs.declared.pos.Pos.{Pos}
 use Rattle.elab_meaning.specs.declared.scope.Entry as rust
 use Rattle.elab_meaning.specs.declared.scope.Unique as unique
@@ -14,18 +15,15 @@ use Rattle.nesc_tree.specs.View.{exprs_of}
 use Rattle.elab_meaning.specs.Operators.{count}
 use Rattle.elab_meaning.specs.View.{entry_of, unique_of, unique_count_of, item_of, asked_of}
 
-fold-end : {A B : Type 0} (f : B → A → B) (b : B) (xs : List A) (x : A) → fold f b (xs ++ (x ∷ [])) ≡ f (fold f b xs) x
-fold-end f b [] x = refl
-fold-end f b (y ∷ ys) x = fold-end f (f b y) ys x
+-- the last entry counts, where it has the name
+pub lookup-last : (name : List ℕ) (older rest : List rust.Entry) (e : rust.Entry) → older ≡ rest ++ (e ∷ [])
+    → lookup (map entry_of older) name ≡ newer name (lookup (map entry_of rest) name) (entry_of e)
+lookup-last name older rest e is =
+    ap (λ (es : List rust.Entry). lookup (map entry_of es) name) is
+    ∙ ap (λ es. lookup es name) (map_push entry_of rest e)
+    ∙ fold-append (newer name) None (map entry_of rest) (entry_of e ∷ [])
 
--- one more entry is looked at
-pub lookup-more : (name : List ℕ) (xs : List rust.Entry) (i : ℕ) (d : rust.Entry) → i < length xs
-    → lookup (map entry_of (take (i + 1) xs)) name ≡ newer name (lookup (map entry_of (take i xs)) name) (entry_of (get_or xs i d))
-lookup-more name xs i d h =
-    ap (λ es. lookup es name) (map_more entry_of xs i d h)
-    ∙ fold-end (newer name) None (map entry_of (take i xs)) (entry_of (get_or xs i d))
-
-pub ruleset tables = (lookup-more)
+pub ruleset tables = (lookup-last)
 
 -- as many arguments as a list has
 pub count-exprs_of : (es : List tree.Expr) → count (exprs_of es) ≡ length es

@@ -13,11 +13,12 @@ use nm_base::Name;
 pub fn look_up<'a>(names: &'a [Entry], name: &Name) -> Option<&'a Meaning>
     ensures { option_map (λ m. meaning_of m.now) result ≡ spec.lookup (map entry_of names.now) name.now }
 {
-    let mut found = None;
-    for entry in names {
+    let mut older = names;
+    'entries: while let Some((entry, rest)) = older.split_last() {
         if is_named(entry, name) {
-            found = Some(&entry.meaning);
+            return Some(&entry.meaning);
         }
+        older = rest;
     }
-    found
+    None
 }

@@ -1,6 +1,7 @@
 -- Tables of names, tags and fields, seen through their entries.
-use Rattle.std.proofs.Common.{◌≡◌, ℕ, ◌+◌, ◌<◌, zero, suc, List, [], ◌∷◌, ◌++◌, length, map, take, drop, fold, get_or, None, if◌then◌else◌, true, bytes_eq, ap, ◌∙◌, sym, refl, arith}
-use Rattle.std.proofs.lemmas.List.{map_more}
+use Rattle.std.proofs.Common.{◌≡◌, ℕ, ◌+◌, ◌<◌, zero, suc, List, [], ◌∷◌, ◌++◌, length, map, drop, get_or, None, if◌then◌else◌, true, bytes_eq, ap, ◌∙◌, sym, refl, arith}
+use Rattle.std.proofs.lemmas.List.{map_push}
+use Rattle.std.proofs.lemmas.List.Sums.{fold-append}
 use Rattle.elab_meaning.specs.declared.scope.Entry as rust
 use Rattle.elab_meaning.specs.declared.scope.Tag as rust_tag
 use Rattle.elab_meaning.specs.Scope.{newer_tag, lookup_tag, declares, declares_tag, has_field}
@@ -8,16 +9,13 @@ use Rattle.nesc_core.specs.declared.tree.Field as rust_field
 use Rattle.nesc_core.specs.View.{field_of}
 use Rattle.elab_meaning.specs.View.{entry_of, tag_of}
 
-fold-end : {A B : Type 0} (f : B → A → B) (b : B) (xs : List A) (x : A) → fold f b (xs ++ (x ∷ [])) ≡ f (fold f b xs) x
-fold-end f b [] x = refl
-fold-end f b (y ∷ ys) x = fold-end f (f b y) ys x
-
--- one more entry is looked at
-pub lookup_tag-more : (name : List ℕ) (xs : List rust_tag.Tag) (i : ℕ) (d : rust_tag.Tag) → i < length xs
-    → lookup_tag (map tag_of (take (i + 1) xs)) name ≡ newer_tag name (lookup_tag (map tag_of (take i xs)) name) (tag_of (get_or xs i d))
-lookup_tag-more name xs i d h =
-    ap (λ es. lookup_tag es name) (map_more tag_of xs i d h)
-    ∙ fold-end (newer_tag name) None (map tag_of (take i xs)) (tag_of (get_or xs i d))
+-- the last tag counts, where it has the name
+pub lookup_tag-last : (name : List ℕ) (older rest : List rust_tag.Tag) (t : rust_tag.Tag) → older ≡ rest ++ (t ∷ [])
+    → lookup_tag (map tag_of older) name ≡ newer_tag name (lookup_tag (map tag_of rest) name) (tag_of t)
+lookup_tag-last name older rest t is =
+    ap (λ (ts : List rust_tag.Tag). lookup_tag (map tag_of ts) name) is
+    ∙ ap (λ ts. lookup_tag ts name) (map_push tag_of rest t)
+    ∙ fold-append (newer_tag name) None (map tag_of rest) (tag_of t ∷ [])
 
 -- the first of those that are left declares the name, or the others do
 pub declares-here : (name : List ℕ) (xs : List rust.Entry) (i : ℕ) (d : rust.Entry) → i < length xs
@@ -51,4 +49,4 @@ has_field-here name (x ∷ xs) (suc i) d h =
     has_field-here name xs i d (omega arith)
     ∙ ap (λ k. if bytes_eq (field_of (get_or xs i d)).name name then true else has_field (map field_of (drop k (x ∷ xs))) name) (sym e)
 
-pub ruleset tables = (lookup_tag-more, declares-here, declares_tag-here, has_field-here)
+pub ruleset tables = (lookup_tag-last, declares-here, declares_tag-here, has_field-here)

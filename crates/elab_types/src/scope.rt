@@ -8,18 +8,19 @@ ghost use Rattle.elab_meaning.specs.View.{entry_of, kind_of, tag_of};
 use elab_meaning::{Entry, Kind, Tag, is_named, is_tagged};
 use nm_base::Name;
 
-/// What a tag names.
+/// What a tag names: its last declaration hides the others.
 #[tactic(auto, using(crate::proofs::Tables::tables))]
 pub fn look_up_tag(tags: &[Tag], name: &Name) -> Option<Kind>
     ensures { option_map kind_of result ≡ spec.lookup_tag (map tag_of tags.now) name.now }
 {
-    let mut found = None;
-    for tag in tags {
+    let mut older = tags;
+    'tags: while let Some((tag, rest)) = older.split_last() {
         if is_tagged(tag, name) {
-            found = Some(tag.kind);
+            return Some(tag.kind);
         }
+        older = rest;
     }
-    found
+    None
 }
 
 /// Whether some entry has the name.
