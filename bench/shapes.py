@@ -82,6 +82,10 @@ def stars(n):
     return {"ShapeC.nc": module("uint8_t %sp;" % ("*" * n), "port_write(0x0120, %sp);" % ("*" * n))}
 
 
+def dimensions(n):
+    return {"ShapeC.nc": module("int a%s;" % ("[1]" * n), "")}
+
+
 def scopes(n):
     return {"ShapeC.nc": module("", "".join("{ uint8_t a%d; " % i for i in range(n)) + "}" * n)}
 
@@ -104,6 +108,7 @@ SHAPES = [
     ("cases of a switch", cases, [2000, 8000]),
     ("initial values", initial, [4000, 16000]),
     ("stars of a pointer", stars, [75, 150]),
+    ("dimensions of an array", dimensions, [1000, 2000, 20000]),
     ("scopes in one another", scopes, [75, 150]),
     ("tasks", tasks, [127, 254]),
 ]
