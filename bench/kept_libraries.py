@@ -1,6 +1,6 @@
 #!/usr/bin/env python3
 """Gives the crates of a checkout the libraries that `rt ci` kept of the same sources on this machine, so that `rt check` begins with the first crate that
-differs and not with the lowest. It proves nothing and gives no verdict.
+differs and not with the lowest. It proves nothing and gives no verdict. It needs a kit whose `rt ci` keeps libraries, as rattle-kit-13f.
 
     bench/kept_libraries.py         at the top of the checkout: lists the crates that it filled
 """
