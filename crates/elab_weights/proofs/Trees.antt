@@ -4,16 +4,13 @@ use Rattle.std.proofs.lemmas.List.Sums.{sum_by-cons}
 use Rattle.nm_base.specs.declared.pos.Pos.{Pos}
 use Rattle.nesc_core.specs.declared.tree.Body.{Body}
 use Rattle.nesc_core.specs.declared.tree.CoreExpr.{CoreExpr, Call}
-use Rattle.nesc_core.specs.declared.tree.CoreExpr as expr
 use Rattle.nesc_core.specs.declared.tree.CoreStmt.{CoreStmt, Switch}
 use Rattle.nesc_core.specs.declared.tree.CoreStmt as stmt
+use Rattle.nesc_core.proofs.LevelLemmas.{call_is}
 use Rattle.nesc_core.specs.Nodes.{body_nodes_of, expr_nodes_of, exprs_nodes_of, stmt_nodes_of, stmts_nodes_of}
 use Rattle.nesc_core.specs.Plain as plain
 use Rattle.nesc_core.specs.View.{body_of, case_of, expr_of, exprs_of, stmt_of, stmts_of}
 use Rattle.nesc_core.specs.Weights.{expr_levels, stmt_atomics, stmt_levels, stmts_atomics, stmts_levels}
-
-pub call_is : (e : CoreExpr) (f : ℕ) (args : List CoreExpr) (at : Pos) → e ≡ Call f args at → expr_of e ≡ plain.call f (exprs_of args) at
-call_is e f args at is = ap expr_of is ∙ search (rules, expr.the_lemmas)
 
 pub nodes_call : (e : CoreExpr) (f : ℕ) (args : List CoreExpr) (at : Pos) → e ≡ Call f args at → expr_nodes_of (expr_of e) ≡ 1 + exprs_nodes_of (exprs_of args)
 nodes_call e f args at is = ap expr_nodes_of (call_is e f args at is)
